@@ -74,7 +74,7 @@ taken_above (instruction.TakeAbove arguments span) = Some (arguments, span)
 taken_above other = None
 
 -- the component that it calls, the keys of what it is given, and whether it has a body
-abbrev pub taken_component : Instruction → Option (site.Name × List Key × Bool × Span)
+abbrev pub taken_component : Instruction → Option (site.Name × List (Option Key) × Bool × Span)
 taken_component (instruction.TakeComponent name keys has_body span) =
     Some (name, keys, has_body, span)
 taken_component other = None

@@ -36,7 +36,7 @@ use Rattle.tera_machine.specs.Config.{Config, config_of}
 use Rattle.tera_machine.specs.Flow.{Use}
 use Rattle.tera_machine.specs.Included.{names_in}
 use Rattle.tera_machine.specs.Subject.{IsLinked, kept_beside, template_of, place_at}
-use Rattle.tera_machine.specs.Bodies.{Entered, BodyRan}
+use Rattle.tera_machine.specs.Bodies.{Entered}
 use Rattle.tera_machine.specs.Apart.{Begins}
 use Rattle.tera_machine.specs.Components.{kept_meant, found_of, first_kept, IsCalled, Calls}
 use Rattle.tera_machine.proofs.Taking.{refused}
@@ -174,11 +174,6 @@ module _ (w : World) (p : Place) (name : Name) (given : List (Name × Val)) (bod
 -- A component's body that is taken.
 
 module _ (w : World) {O : Type 0} (m : VirtualMachine O) (file : Name) (q : Request) (u : Use) (b0 : OpenBlocks) (c0 : Configuration) where
-  -- a request that is refused
-  pub call_failed : (r : SeenError) (c1 : Config) (k : ℕ) → k ≡ 0 → Calls w (place_at m file b0 c0) q (config_of c0).run.vars (Err r) → BodyRan w (place_at m file b0 c0) q u (config_of c0) (Err r) c1 k
-  call_failed None c1 k z h = tt
-  call_failed (Some f) c1 k z h = refused f k z h
-
   module _ {called : Called} (is : IsCalled w (place_at m file b0 c0) q (config_of c0).run.vars called) (m1 : VirtualMachine O) (b1 : OpenBlocks) {outer : Outer} {c1 : Configuration} (template : m1.template ≡ None) (escapes : m1.autoescape ≡ m.autoescape) (depth : m1.depth ≡ called.depth) (names : b1.names ≡ []) (above : definers_of b1.above ≡ []) (included : names_in b1.included ≡ []) (begins : Begins (in_component called.context (around_of c0.scopes) (variables_of c0.scopes)) c0 outer c1) where
     same_place : place_of_component (in_component called.context (around_of c0.scopes) (variables_of c0.scopes)) m.autoescape (suc m.depth) is.file ≡ place_at m1 called.body.chunk.now.file b1 c1
     same_place =

@@ -68,9 +68,13 @@ all_broke most w o (r ∷ rs) m code b c n f k l (y, rest) x =
     let same = place_same m' r.body.chunk.now.file r.body.chunk.now.file refl y.stays in
     all_broke most w o rs m' r.body.chunk.now y.began y.start y.first f k le rest (body_failed y.asks f k l (ends_at same (body_broke y.enters f (k - n) x)))
 
+-- want of memory says nothing
+pub lacked_all : {O : Type 0} (w : World) (o : Beginning O) (r : SeenError) (c : Config) (n : ℕ) → r ≡ None → WholeRan w o (Err r) c n
+lacked_all w o r c n e = subst (λ r. WholeRan w o (Err r) c n) (sym e) tt
+
 -- a run begins
-pub begins : {O : Type 0} {most : ℕ} {w : World} {m : VirtualMachine O} {code : Listing} {b : OpenBlocks} {c : Configuration} {n : ℕ} → IsLinked m w → EndsWithin w (place_at m code.file b c) code.code 0 (config_of c) (most - n) → Running most w (record { machine = m; code = code; blocks = b; configuration = c; count = n }) [] m code 0 b c n
-begins {b = b} {c} {n} linked within = record {
+pub begins : (most : ℕ) (w : World) {O : Type 0} (m : VirtualMachine O) (code : Listing) (b : OpenBlocks) (c : Configuration) (n : ℕ) → IsLinked m w → EndsWithin w (place_at m code.file b c) code.code 0 (config_of c) (most - n) → Running most w (record { machine = m; code = code; blocks = b; configuration = c; count = n }) [] m code 0 b c n
+begins most w m code b c n linked within = record {
   counted = omega arith;
   bounded = λ h. h;
   began = b;
@@ -233,9 +237,16 @@ module _ {O : Type 0} {most : ℕ} {w : World} {o : Beginning O} {rs : List Wait
   over = finished g.progress none same
 
   -- where nothing waits, the run is over
-  module _ (e : rs ≡ []) where
+  module _ (none_waits : length rs ≡ 0) where
+    empty : rs ≡ []
+    empty = by rs none_waits
+      where
+        by : (rs : List Waiting) → length rs ≡ 0 → rs ≡ []
+        by [] z = refl
+        by (r ∷ rs) z = absurd (omega (arith, z))
+
     began : o ≡ record { machine = m; code = code; blocks = g.began; configuration = g.start; count = g.first }
-    began = subst (λ rs. Came most w o rs m code g.began g.start g.first) e g.came
+    began = subst (λ rs. Came most w o rs m code g.began g.start g.first) empty g.came
 
     pub all_over : WholeEnds w o (Finished (config_of c) (n2 - o.count))
     all_over =
@@ -268,10 +279,10 @@ module _ {O : Type 0} {most : ℕ} {w : World} {o : Beginning O} {rs : List Wait
           let up : g.first ≤ most → n2 ≤ most = λ h. let k = g.progress.bounded h in omega (arith, k, same) in
           came_back x.asks (config_of c4) n2 l up (ends_at around_same closed.0)
 
-  pub texts_open : rs ≢ [] → (config_of c).captures ≢ []
+  pub texts_open : length rs ≢ 0 → (config_of c).captures ≢ []
   texts_open some = by rs some g.came
     where
-      by : (rs : List Waiting) → rs ≢ [] → Came most w o rs m code g.began g.start g.first → (config_of c).captures ≢ []
+      by : (rs : List Waiting) → length rs ≢ 0 → Came most w o rs m code g.began g.start g.first → (config_of c).captures ≢ []
       by [] some came = absurd (some refl)
       by (r ∷ rs) some came = has_text came.0
 

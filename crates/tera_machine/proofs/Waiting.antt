@@ -1,5 +1,5 @@
 -- A body that waits puts everything back.
-use Rattle.std.proofs.Common.{◌≡◌, ℕ, Bool, false, List, drop, Option, None, Some, Ok, Err, refl, sym, ap, ◌∙◌, subst}
+use Rattle.std.proofs.Common.{◌≡◌, ℕ, Bool, false, List, ◌∷◌, drop, Option, None, Some, Ok, Err, refl, sym, ap, ◌∙◌, subst}
 use Rattle.tera_errors.specs.Site.{Name}
 use Rattle.tera_errors.specs.Answer.{SeenError}
 use Rattle.tera_errors.specs.declared.span.Span.{Span}
@@ -30,13 +30,13 @@ use Rattle.tera_machine.specs.Bodies.{Entered, Enters, Leaves, Stays}
 use Rattle.tera_machine.specs.Apart.{Begins, Rejoins}
 use Rattle.tera_machine.specs.Includes.{FindsTemplate}
 use Rattle.tera_machine.specs.Components.{Calls}
-use Rattle.tera_machine.specs.Open.{Keeps, LeavesApart, TakesBody}
+use Rattle.tera_machine.specs.Open.{PutsBack, LeavesApart, TakesBody}
 use Rattle.tera_machine.proofs.Noting.{noted_apart}
 use Rattle.tera_machine.proofs.Rejoining.{KeepsText, reading, has_outer, apart_stayed, apart_over}
-use Rattle.tera_machine.proofs.Took.{body_over, body_stayed}
+use Rattle.tera_machine.proofs.Took.{took, stayed}
 
 -- a body that asked for another
-pub keeps_asked : (w : World) {O : Type 0} (m : VirtualMachine O) (file : Name) (a : Asked) (b0 : OpenBlocks) (c0 : Configuration) {inside : Inside} {b1 : OpenBlocks} {c1 : Configuration} (entry : Enters w m file a b0 c0 (Ok inside) b1 c1) (here : Body) (at : ℕ) → Keeps w (place_at m file b0 c0) (request_of a) (use_of a) b0 c0 (record { body = here; at = at; above = inside.above; outer = inside.outer; back = back.Taken a }) (place_at m inside.definer.chunk.now.file b1 c1) inside.definer.chunk.now.code b1 c1
+pub keeps_asked : (w : World) {O : Type 0} (m : VirtualMachine O) (file : Name) (a : Asked) (b0 : OpenBlocks) (c0 : Configuration) {inside : Inside} {b1 : OpenBlocks} {c1 : Configuration} (entry : Enters w m file a b0 c0 (Ok inside) b1 c1) (here : Body) (at : ℕ) → PutsBack w (place_at m file b0 c0) (request_of a) (use_of a) b0 c0 (record { body = here; at = at; above = inside.above; outer = inside.outer; back = back.Taken a }) (place_at m inside.definer.chunk.now.file b1 c1) inside.definer.chunk.now.code b1 c1
 keeps_asked w m file a b0 c0 {inside} entry here at = record {
   apart = λ b3 c3 stay x. absurd x;
   closes = λ most may b3 c3 j stay over b4 c4 l.
@@ -49,7 +49,7 @@ keeps_asked w m file a b0 c0 {inside} entry here at = record {
       places = l.places;
       scopes = l.scopes;
     } in
-    (body_over w m file a b0 c0 may entry c3 over stay b4 c4 (Ok tt) leaves tt, body_stayed w m file a b0 c0 may entry c3 over stay b4 c4 (Ok tt) leaves);
+    (took w m file a b0 c0 may entry c3 over stay b4 c4 leaves, stayed w m file a b0 c0 may entry c3 over stay b4 c4 leaves);
 }
 
 -- a body that stands in a state of its own
@@ -61,7 +61,7 @@ module _ (w : World) (p : Place) (q : Request) (u : Use) (keeps : KeepsText q) (
 
   module _ (here : Body) (at : ℕ) (template : Option FoundTemplate) (depth : ℕ) where
     -- that of a template that is included
-    pub keeps_included : u ≡ Written → drop 1 b1.included.names ≡ b0.included.names → Keeps w p q u b0 c0 (record { body = here; at = at; above = b0.above; outer = outer; back = back.Included around template }) p1 code b1 c1
+    pub keeps_included : u ≡ Written → drop 1 b1.included.names ≡ b0.included.names → PutsBack w p q u b0 c0 (record { body = here; at = at; above = b0.above; outer = outer; back = back.Included around template }) p1 code b1 c1
     keeps_included written pushed =
         let r : Waiting = record { body = here; at = at; above = b0.above; outer = outer; back = back.Included around template } in
         record {
@@ -73,7 +73,7 @@ module _ (w : World) (p : Place) (q : Request) (u : Use) (keeps : KeepsText q) (
         }
 
     -- and that of a component
-    pub keeps_called : (included : Included) → included ≡ b0.included → (safe : Bool) (span : Span) → u ≡ Pushed safe span → Keeps w p q u b0 c0 (record { body = here; at = at; above = b0.above; outer = outer; back = back.Called around included template depth safe span }) p1 code b1 c1
+    pub keeps_called : (included : Included) → included ≡ b0.included → (safe : Bool) (span : Span) → u ≡ Pushed safe span → PutsBack w p q u b0 c0 (record { body = here; at = at; above = b0.above; outer = outer; back = back.Called around included template depth safe span }) p1 code b1 c1
     keeps_called included same safe span pushed =
         let r : Waiting = record { body = here; at = at; above = b0.above; outer = outer; back = back.Called around included template depth safe span } in
         record {

@@ -119,10 +119,3 @@ pub record Stays (blocks0 : OpenBlocks) (c0 : Configuration) (blocks : OpenBlock
   pub since : List (Name × Text)
   pub ended : c.ended.all ≡ c0.ended.all ++ since
   pub noted : Noted blocks0.wanted since blocks.wanted
-
--- a request was answered as the machine does, unless memory was refused
-abbrev pub BodyRan : World → Place → Request → Use → Config → Result (Unit {0}) SeenError → Config
-    → ℕ → Type 0
-BodyRan w p q u c (Ok done) c' k = BodyEnds w p q u c (Finished c' k)
-BodyRan w p q u c (Err None) c' k = Unit {0}
-BodyRan w p q u c (Err (Some f)) c' k = BodyEnds w p q u c (Broken f k)

@@ -98,7 +98,7 @@ pub record Resumes {O : Type 0} (m3 : VirtualMachine O) (open3 : List Waiting) (
   pub left : Left waiting b3 c3 b4 c4
 
 -- what waits puts everything back, whatever the end of the body that it waits for
-pub record Keeps (w : World) (p : Place) (q : Request) (u : Use) (b0 : OpenBlocks) (c0 : Configuration) (r : Waiting) (p1 : Place) (code1 : Code) (b1 : OpenBlocks) (c1 : Configuration) : Type 0 where
+pub record PutsBack (w : World) (p : Place) (q : Request) (u : Use) (b0 : OpenBlocks) (c0 : Configuration) (r : Waiting) (p1 : Place) (code1 : Code) (b1 : OpenBlocks) (c1 : Configuration) : Type 0 where
   pub apart : (b3 : OpenBlocks) (c3 : Configuration) → Stays b1 c1 b3 c3 → IsApart r.back → c3.scopes.below ≢ []
   pub closes : (most : ℕ) → BodyWithin w p q u (config_of c0) most → (b3 : OpenBlocks) (c3 : Configuration) (j : ℕ) → Stays b1 c1 b3 c3 → Ends w p1 code1 0 (config_of c1) (Finished (config_of c3) j) → (b4 : OpenBlocks) (c4 : Configuration) → Left r b3 c3 b4 c4 → BodyEnds w p q u (config_of c0) (Finished (config_of c4) j) × Stays b0 c0 b4 c4
 
@@ -110,7 +110,7 @@ pub record Taken {O : Type 0} (w : World) (m : VirtualMachine O) (here : Listing
   pub code : waits.body.chunk.now ≡ here
   pub at : waits.at ≡ next
   pub enters : Entered w (place_at m here.file b0 c0) q (config_of c0) (place_at m1 body.chunk.now.file b1 c1) body.chunk.now.code (config_of c1)
-  pub keeps : Keeps w (place_at m here.file b0 c0) q u b0 c0 waits (place_at m1 body.chunk.now.file b1 c1) body.chunk.now.code b1 c1
+  pub keeps : PutsBack w (place_at m here.file b0 c0) q u b0 c0 waits (place_at m1 body.chunk.now.file b1 c1) body.chunk.now.code b1 c1
   pub linked : IsLinked m1 w
   pub objects : m1.objects.now ≡ m.objects.now
 
@@ -135,7 +135,7 @@ pub record Waits (most : ℕ) (w : World) {O : Type 0} (m : VirtualMachine O) (h
   pub asks : AtAsk most w (place_at m here.file began start) here.code (config_of start) first ip before count instruction (config_of configuration) n1 request use'
   pub stays : Stays began start blocks configuration
   pub enters : Entered w (place_at m here.file blocks configuration) request (config_of configuration) p1 code1 (config_of c1)
-  pub keeps : Keeps w (place_at m here.file blocks configuration) request use' blocks configuration r p1 code1 b1 c1
+  pub keeps : PutsBack w (place_at m here.file blocks configuration) request use' blocks configuration r p1 code1 b1 c1
   pub linked : IsLinked m w
   pub next : r.at ≡ ip + 1
 

@@ -32,14 +32,13 @@ use Rattle.tera_machine.specs.declared.blocks.OpenBlocks.{OpenBlocks}
 use Rattle.tera_machine.specs.declared.components.Called.{Called}
 use Rattle.tera_machine.specs.declared.configuration.Configuration.{Configuration}
 use Rattle.tera_machine.specs.declared.machine.VirtualMachine.{VirtualMachine}
-use Rattle.tera_machine.specs.Config.{Config, config_of}
+use Rattle.tera_machine.specs.Config.{config_of}
 use Rattle.tera_machine.specs.Flow.{Use}
 use Rattle.tera_machine.specs.Included.{names_in}
 use Rattle.tera_machine.specs.Subject.{IsLinked, kept_beside, template_of, place_at}
 use Rattle.tera_machine.specs.Bodies.{Entered}
 use Rattle.tera_machine.specs.Apart.{Begins}
 use Rattle.tera_machine.specs.Components.{kept_meant, found_of, first_kept, IsCalled, Calls}
-use Rattle.tera_machine.proofs.Taking.{refused}
 
 -- Which component a name leads to.
 

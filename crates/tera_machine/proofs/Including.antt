@@ -1,9 +1,8 @@
 -- Templates that are included follow the pure machine.
-use Rattle.std.proofs.Common.{◌≡◌, ℕ, Bool, true, false, [], ◌∷◌, Option, Some, None, Err, sym, ap, ap₂, ◌∙◌}
+use Rattle.std.proofs.Common.{◌≡◌, Bool, true, false, [], ◌∷◌, Option, Some, None, sym, ap, ap₂, ◌∙◌}
 use Rattle.std.specs.Prelude.{option_map, if◌then◌else◌}
 use Rattle.tera_errors.specs.Site.{Name}
 use Rattle.tera_errors.specs.declared.span.Span.{Span}
-use Rattle.tera_errors.specs.Answer.{SeenError}
 use Rattle.tera_syntax_tree.specs.Blocks.{is_among}
 use Rattle.tera_state.specs.Scope.{Variables, nothing_set, in_include}
 use Rattle.tera_state.specs.Scopes.{variables_of, around_of}
@@ -18,12 +17,11 @@ use Rattle.tera_machine.specs.declared.bodies.Outer.{Outer}
 use Rattle.tera_machine.specs.declared.blocks.OpenBlocks.{OpenBlocks}
 use Rattle.tera_machine.specs.declared.configuration.Configuration.{Configuration}
 use Rattle.tera_machine.specs.declared.machine.VirtualMachine.{VirtualMachine}
-use Rattle.tera_machine.specs.Config.{Config, config_of}
-use Rattle.tera_machine.specs.Flow.{Written}
+use Rattle.tera_machine.specs.Config.{config_of}
 use Rattle.tera_machine.specs.Included.{names_in}
 use Rattle.tera_machine.specs.Subject.{template_of, place_at}
 use Rattle.tera_machine.specs.Bodies.{Entered}
-use Rattle.tera_machine.specs.Includes.{IsTemplate, FindsTemplate}
+use Rattle.tera_machine.specs.Includes.{IsTemplate}
 use Rattle.tera_machine.specs.Apart.{Begins}
 use Rattle.tera_machine.proofs.Taking.{refused}
 

@@ -7,7 +7,7 @@ use Rattle.tera_state.specs.Scopes.{around_of}
 use Rattle.tera_objects.specs.Engine.{Engine}
 use Rattle.tera_meaning.specs.Here.{Here}
 use Rattle.tera_meaning.specs.Run.{Request}
-use Rattle.tera_meaning.specs.Whole.{World, Place, Refuses, way, here_at}
+use Rattle.tera_meaning.specs.Whole.{World, Place, here_at}
 use Rattle.tera_code.specs.Code.{Code}
 use Rattle.tera_code.specs.Listing.{Listing}
 use Rattle.tera_code.specs.declared.instruction.Instruction.{Instruction}
@@ -29,7 +29,8 @@ use Rattle.tera_machine.specs.Exec.{End, Finished, Broken, left, Ends, EndsWithi
 use Rattle.tera_machine.specs.Advance.{Advance, BodyWithin}
 use Rattle.tera_machine.specs.Bodies.{Stays}
 use Rattle.tera_machine.specs.Subject.{IsLinked, engine_of, here_of, place_at}
-use Rattle.tera_machine.specs.Together.{done, after_steps}
+use Rattle.tera_machine.specs.Together.{done}
+use Rattle.tera_machine.specs.Paths.{Stands, start_at}
 use Rattle.tera_machine.specs.Open.{AtAsk, Beginning, Came, HasOuter, Resumes, Running, Taken, TakesBody, Waits, machine_by, machine_again}
 use Rattle.tera_machine.proofs.Noting.{noted_none}
 use Rattle.tera_machine.proofs.Runs.{here_is, starts, one_left, not_stuck, small, went_on, skipped, skip_within, went_to, place_within, went_out, finished, effect_failed, at_request}
@@ -112,18 +113,19 @@ module _ {O : Type 0} (engine : O → Engine) {most : ℕ} {w : World} {o : Begi
     is_small = small g.progress same_here found
 
   -- instructions that were done together
-  module _ {n1 n2 at : ℕ} {c1 : Config} (one : n1 ≡ n + 1) (more : n1 ≤ n2) (there : at < length code.code) (led : after_steps here code.code (n2 - n1) ip (config_of c) ≡ Some (at, c1)) where
+  module _ {n1 n2 at : ℕ} (one : n1 ≡ n + 1) (stands : Stands (start_at here ip n1 (config_of c)) code.code at n2) where
     -- what they did
     abbrev did : Did
     did = done here code.code (suc (n2 - n1)) ip (config_of c)
 
     last : Last most w place code.code (config_of g.start) g.first at n2 (config_of c) did
-    last = last_of g.progress same_here one more there led
+    last = last_of g.progress same_here one stands.counted stands.there stands.led
 
     -- they are counted, and there was room for them
     pub few : (n < n2) × (n2 ≤ most)
     few =
         let left = one_left last.progress last.found in
+        let more = stands.counted in
         (omega (arith, one, more), omega (arith, left, last.count))
 
     pub broke : (r : SeenError) (c2 : Config) → Effected did (Err r) c2 → WholeRan w o (Err r) c2 n2

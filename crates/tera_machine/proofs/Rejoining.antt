@@ -11,7 +11,7 @@ use Rattle.tera_code.specs.Code.{Code}
 use Rattle.tera_machine.specs.declared.bodies.Outer.{Outer}
 use Rattle.tera_machine.specs.declared.blocks.OpenBlocks.{OpenBlocks}
 use Rattle.tera_machine.specs.declared.configuration.Configuration.{Configuration}
-use Rattle.tera_machine.specs.Config.{Config, Loop, config_of, loops_at}
+use Rattle.tera_machine.specs.Config.{Loop, config_of, loops_at}
 use Rattle.tera_machine.specs.Flow.{Use, Written, Pushed}
 use Rattle.tera_machine.specs.Effect.{beneath_in}
 use Rattle.tera_machine.specs.Exec.{Finished, used, left, left_in, Ends, BodyEnds}

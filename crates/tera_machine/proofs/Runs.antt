@@ -25,7 +25,6 @@ use Rattle.tera_machine.specs.Exec.{End, Finished, Broken, Stuck, after, within_
 use Rattle.tera_machine.specs.Advance.{Leads, Advance}
 use Rattle.tera_machine.specs.Subject.{engine_of, place_at, here_of}
 use Rattle.tera_machine.proofs.Ends.{after-none, ends_here, step_ends, within_step, further, on_leads, skip_leads, to_leads, out_leads}
-use Rattle.tera_machine.proofs.Places.{nothing_behind}
 use Rattle.tera_machine.specs.Open.{AtAsk}
 
 within_cond : (m : ℕ) (b : Bool) (x : End) → Within m (cond b x Stuck) → (b ≡ true) × Within m x

@@ -1,13 +1,11 @@
 -- Real bodies that are entered and left follow the pure machine.
-use Rattle.std.proofs.Common.{◌≡◌, ◌≢◌, ℕ, ◌-◌, ◌≤◌, true, List, [], ◌∷◌, ◌++◌, Some, None, Result, Ok, Err, refl, sym, ap, ap₂, ◌∙◌, subst, append_assoc, append-nil}
+use Rattle.std.proofs.Common.{◌≡◌, ◌≢◌, ℕ, ◌-◌, true, List, [], ◌∷◌, ◌++◌, Some, None, Ok, Err, refl, sym, ap, ap₂, ◌∙◌, subst, append_assoc, append-nil}
 use Rattle.tera_errors.specs.Site.{Name, Text}
-use Rattle.std.specs.Prelude.{OnOk, IfErr}
-use Rattle.tera_errors.specs.Answer.{SeenError, Lacks}
+use Rattle.tera_errors.specs.Answer.{SeenError}
 use Rattle.tera_state.specs.Scope.{Turn}
 use Rattle.tera_state.specs.Scopes.{around_of, coming_of, coming_around}
 use Rattle.tera_meaning.specs.Run.{Request}
 use Rattle.tera_meaning.specs.Whole.{World, Place, Takes}
-use Rattle.tera_code.specs.declared.instruction.Instruction.{Instruction}
 use Rattle.tera_registry.specs.Templates.{definers_of}
 use Rattle.tera_registry.specs.declared.templates.Definer.{Definer as Nearest}
 use Rattle.tera_code.specs.Listing.{Listing}
@@ -23,16 +21,15 @@ use Rattle.tera_machine.specs.Config.{Config, Loop, config_of, loops_at}
 use Rattle.tera_machine.specs.Flow.{Flow, Use, Written, Pushed, request_of, use_of}
 use Rattle.tera_machine.specs.Did.{Did, Goes}
 use Rattle.tera_machine.specs.Effect.{beneath, beneath_in}
-use Rattle.tera_machine.specs.Exec.{End, Finished, entered, used, left, left_in, Ends, EndsWithin, BodyEnds, Ran}
+use Rattle.tera_machine.specs.Exec.{End, Finished, entered, used, left, left_in, Ends, BodyEnds}
 use Rattle.tera_machine.specs.Advance.{BodyWithin}
 use Rattle.tera_machine.specs.Included.{names_in}
 use Rattle.tera_machine.specs.Subject.{template_of, place_at, place_of}
-use Rattle.tera_machine.specs.Bodies.{opened_by, closed_by, IsBody, FindsBody, Entered, Enters, closed_in, Leaves, Stays, BodyRan}
+use Rattle.tera_machine.specs.Bodies.{opened_by, closed_by, IsBody, FindsBody, Entered, Enters, closed_in, Leaves, Stays}
 use Rattle.tera_machine.specs.Wanted.{ended_by}
 use Rattle.tera_machine.proofs.Together.{Last, last_still}
 use Rattle.tera_machine.proofs.Noting.{noted_then, noted_from}
-use Rattle.tera_machine.proofs.Taking.{body_failed, refused, inner_within, can_leave, body_done, body_broke}
-use Rattle.tera_machine.specs.Open.{AtAsk}
+use Rattle.tera_machine.proofs.Taking.{can_leave, body_done}
 
 pub place_same : {O : Type 0} (m : VirtualMachine O) (file file0 : Name) {b0 b : OpenBlocks} {c0 c : Configuration} → file ≡ file0 → Stays b0 c0 b c → place_at m file b c ≡ place_at m file0 b0 c0
 place_same m file file0 {b0} {b} {c0} {c} e s =

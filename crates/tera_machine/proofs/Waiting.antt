@@ -40,16 +40,16 @@ pub keeps_asked : (w : World) {O : Type 0} (m : VirtualMachine O) (file : Name) 
 keeps_asked w m file a b0 c0 {inside} entry here at = record {
   apart = λ b3 c3 stay x. absurd x;
   closes = λ most may b3 c3 j stay over b4 c4 l.
-    let leaves : Leaves a inside b3 c3 b4 c4 = record {
-      config = l.config;
-      names = l.names;
-      above = l.above;
-      noted = l.noted;
-      included = l.included;
-      places = l.places;
-      scopes = l.scopes;
-    } in
-    (took w m file a b0 c0 may entry c3 over stay b4 c4 leaves, stayed w m file a b0 c0 may entry c3 over stay b4 c4 leaves);
+      let leaves : Leaves a inside b3 c3 b4 c4 = record {
+        config = l.config;
+        names = l.names;
+        above = l.above;
+        noted = l.noted;
+        included = l.included;
+        places = l.places;
+        scopes = l.scopes;
+      } in
+      (took w m file a b0 c0 may entry c3 over stay b4 c4 leaves, stayed w m file a b0 c0 may entry c3 over stay b4 c4 leaves);
 }
 
 -- a body that stands in a state of its own
@@ -67,9 +67,9 @@ module _ (w : World) (p : Place) (q : Request) (u : Use) (keeps : KeepsText q) (
         record {
           apart = λ b3 c3 stay x. has_outer begins seen c3 stay;
           closes = λ most may b3 c3 j stay over b4 c4 l.
-            let names : b4.included.names ≡ b0.included.names = l.1 ∙ ap (λ (i : Included). drop 1 i.names) stay.included ∙ pushed in
-            let included : b4.included ≡ b0.included = ap (λ ns. record { names = ns }) names in
-            closes_apart most may b3 c3 j stay over b4 c4 r refl refl (subst (λ u. LeavesApart u around r b3 c3 b4 c4) (sym written) l.0) included;
+              let names : b4.included.names ≡ b0.included.names = l.1 ∙ ap (λ (i : Included). drop 1 i.names) stay.included ∙ pushed in
+              let included : b4.included ≡ b0.included = ap (λ ns. record { names = ns }) names in
+              closes_apart most may b3 c3 j stay over b4 c4 r refl refl (subst (λ u. LeavesApart u around r b3 c3 b4 c4) (sym written) l.0) included;
         }
 
     -- and that of a component
@@ -79,7 +79,7 @@ module _ (w : World) (p : Place) (q : Request) (u : Use) (keeps : KeepsText q) (
         record {
           apart = λ b3 c3 stay x. has_outer begins seen c3 stay;
           closes = λ most may b3 c3 j stay over b4 c4 l.
-            closes_apart most may b3 c3 j stay over b4 c4 r refl refl (subst (λ u. LeavesApart u around r b3 c3 b4 c4) (sym pushed) l.0) (l.1 ∙ same);
+              closes_apart most may b3 c3 j stay over b4 c4 r refl refl (subst (λ u. LeavesApart u around r b3 c3 b4 c4) (sym pushed) l.0) (l.1 ∙ same);
         }
 
 -- what is not found is not taken

@@ -1,5 +1,5 @@
 -- Who defines a block for the template that is rendered, and which template a name leads to.
-use Rattle.std.proofs.Common.{◌≡◌, Option, Some, None, sym, ap, ap₂, ◌∙◌, subst}
+use Rattle.std.proofs.Common.{◌≡◌, Option, Some, sym, ap, ap₂, ◌∙◌, subst}
 use Rattle.std.specs.Prelude.{option_map}
 use Rattle.tera_errors.specs.Site.{Name}
 use Rattle.tera_meaning.specs.Lineage.{definers}
@@ -9,7 +9,7 @@ use Rattle.tera_registry.specs.Templates.{with_templates, definers_of, Finds}
 use Rattle.tera_registry.specs.declared.templates.FoundTemplate.{FoundTemplate}
 use Rattle.tera_registry.specs.declared.templates.Definers.{Definers}
 use Rattle.tera_machine.specs.declared.machine.VirtualMachine.{VirtualMachine}
-use Rattle.tera_machine.specs.Subject.{IsLinked, is_from, kept_beside, template_of}
+use Rattle.tera_machine.specs.Subject.{IsLinked, is_from, template_of}
 
 -- those who define a block for the template that is rendered
 pub of_template : {O : Type 0} (m : VirtualMachine O) (w : World) (found : FoundTemplate) (name : Name) (ds : Definers) (text : Name) → IsLinked m w → m.template ≡ Some found → text ≡ name → ((s : Registry) → definers_of ds ≡ definers (with_templates s found.templates.now) (Some found.name.now) text) → definers_of ds ≡ definers w.registry (template_of m) name

@@ -1,5 +1,5 @@
 -- How the machine takes the body of a block, and how it leaves it.
-use Rattle.std.specs.Prelude.{◌≡◌, ℕ, List, [], ◌∷◌, ◌++◌, drop, Some, None, Result, Ok, Err}
+use Rattle.std.specs.Prelude.{◌≡◌, List, [], ◌∷◌, ◌++◌, drop, Some, None, Result, Ok, Err}
 use Rattle.tera_errors.specs.Site.{Name, Text}
 use Rattle.tera_errors.specs.Answer.{SeenError}
 use Rattle.tera_syntax_tree.specs.Tree.{Nodes}
@@ -20,7 +20,7 @@ use Rattle.tera_machine.specs.declared.blocks.OpenBlocks.{OpenBlocks}
 use Rattle.tera_machine.specs.Config.{Config, Loop, config_of, loops_at}
 use Rattle.tera_machine.specs.Flow.{Use, request_of, use_of}
 use Rattle.tera_machine.specs.Effect.{beneath}
-use Rattle.tera_machine.specs.Exec.{Finished, Broken, entered, used, BodyEnds}
+use Rattle.tera_machine.specs.Exec.{entered, used}
 use Rattle.tera_machine.specs.Subject.{place_at}
 use Rattle.tera_machine.specs.Wanted.{ended_by, Noted}
 

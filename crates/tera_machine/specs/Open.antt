@@ -1,6 +1,5 @@
 -- The bodies that wait.
 use Rattle.std.specs.Prelude.{◌≡◌, ◌≢◌, ℕ, ◌+◌, ◌≤◌, slice_get, List, [], ◌∷◌, drop, None, Some, Result, Ok, Err}
-use Rattle.tera_errors.specs.Site.{Name}
 use Rattle.tera_errors.specs.Answer.{SeenError}
 use Rattle.tera_state.specs.Scopes.{coming_of}
 use Rattle.tera_meaning.specs.Run.{Request}
@@ -17,7 +16,6 @@ use Rattle.tera_machine.specs.declared.bodies.Back.TheVariants as back
 use Rattle.tera_machine.specs.declared.bodies.Behind.{Behind}
 use Rattle.tera_machine.specs.declared.bodies.Body.{Body}
 use Rattle.tera_machine.specs.declared.blocks.Around.{Around}
-use Rattle.tera_machine.specs.declared.bodies.Outer.{Outer}
 use Rattle.tera_machine.specs.declared.bodies.Waiting.{Waiting}
 use Rattle.tera_machine.specs.declared.configuration.Configuration.{Configuration}
 use Rattle.tera_machine.specs.declared.machine.VirtualMachine.{VirtualMachine}

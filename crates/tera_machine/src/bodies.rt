@@ -109,7 +109,12 @@ impl<'c> Configuration<'c> {
     }
 
     // The body ends: its text joins the one around it, or becomes a safe operand. That of a block is kept where it is wanted.
-    pub(crate) fn end_body(&mut self, asked: Asked<'_>, outer: Outer, wanted: &mut Wanted) -> TeraResult<()>
+    pub(crate) fn end_body(
+        &mut self,
+        asked: Asked<'_>,
+        outer: Outer,
+        wanted: &mut Wanted,
+    ) -> TeraResult<()>
         requires { (config_of self.old).captures ≢ [] }
         ensures config { OnOk result (config_of self.new ≡ closed_in (config_of self.old).captures
             (request_of asked.entry) (use_of asked.entry) outer.ended.all

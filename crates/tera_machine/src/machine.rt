@@ -279,7 +279,13 @@ impl<'t, O: Objects> VirtualMachine<'t, O> {
                 continue;
             };
             let mut last = at;
-            let flow = match configuration.perform(&machine, chunk, &mut last, &instruction, steps) {
+            let flow = match configuration.perform(
+                &machine,
+                chunk,
+                &mut last,
+                &instruction,
+                steps,
+            ) {
                 Ok(flow) => flow,
                 Err(error) => return Err(error),
             };
@@ -297,14 +303,28 @@ impl<'t, O: Objects> VirtualMachine<'t, O> {
                     at = 0;
                 }
                 Flow::Include(asked) => {
-                    match machine.include::<M>(body, next, asked, blocks, configuration, &mut open) {
+                    match machine.include::<M>(
+                        body,
+                        next,
+                        asked,
+                        blocks,
+                        configuration,
+                        &mut open,
+                    ) {
                         Ok(inner) => body = inner,
                         Err(error) => return Err(error),
                     }
                     at = 0;
                 }
                 Flow::Component(asked) => {
-                    match machine.component::<M>(body, next, asked, blocks, configuration, &mut open) {
+                    match machine.component::<M>(
+                        body,
+                        next,
+                        asked,
+                        blocks,
+                        configuration,
+                        &mut open,
+                    ) {
                         Ok(inner) => body = inner,
                         Err(error) => return Err(error),
                     }

@@ -1,4 +1,4 @@
-use Rattle.std.proofs.Common.{refl, ap, sym, ◌∙◌, subst, None, Err}
+use Rattle.std.proofs.Common.{refl, ap, ◌∙◌, subst, None, Err}
 use Rattle.tera_machine.specs.declared.asked.AskedComponent.{AskedComponent}
 use Rattle.tera_machine.specs.declared.bodies.Back.TheVariants as back
 use Rattle.tera_machine.specs.Config.{config_of}

@@ -23,7 +23,6 @@ use Rattle.tera_machine.specs.Subject.{template_of, place_at}
 use Rattle.tera_machine.specs.Bodies.{Entered}
 use Rattle.tera_machine.specs.Includes.{IsTemplate}
 use Rattle.tera_machine.specs.Apart.{Begins}
-use Rattle.tera_machine.proofs.Taking.{refused}
 
 -- Which template an include takes.
 

@@ -1,16 +1,14 @@
 -- The machine's loop follows the pure machine into a body and back.
 use Rattle.std.proofs.Common.{◌≡◌, ◌≢◌, ℕ, ◌+◌, ◌-◌, ◌<◌, ◌≤◌, Option, Some, None, refl, sym, ap, ◌∙◌, subst, ⊎_elim, arith}
 use Rattle.std.proofs.lemmas.Bool.{cases_lt}
-use Rattle.std.specs.Prelude.{slice_get}
 use Rattle.tera_errors.specs.Fault.{Fault}
 use Rattle.tera_meaning.specs.Run.{Request}
-use Rattle.tera_meaning.specs.Whole.{World, Place, Refuses, way, here_at}
+use Rattle.tera_meaning.specs.Whole.{World, Place, Refuses, way}
 use Rattle.tera_code.specs.declared.instruction.Instruction.{Instruction}
 use Rattle.tera_code.specs.Code.{Code}
 use Rattle.tera_machine.specs.Config.{Config}
 use Rattle.tera_machine.specs.Flow.{Use, Ask}
 use Rattle.tera_machine.specs.Did.{Goes}
-use Rattle.tera_machine.specs.Effect.{effect}
 use Rattle.tera_machine.specs.Exec.{End, Finished, Broken, Unfinished, Stuck, then_on, entered, left, back, leaving, taken, body_by, exec, Within, IsOver, Ends, EndsWithin, BodyEnds}
 use Rattle.tera_machine.specs.Advance.{Advance, BodyWithin}
 use Rattle.tera_machine.specs.Bodies.{Entered}

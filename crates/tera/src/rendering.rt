@@ -155,10 +155,10 @@ impl<O: Objects> TeraOver<O> {
     }
 
     // The text of a body that reads these scopes. The subject is the body's: it tells the machine what it means.
-    pub(crate) fn run_within<L: Ledger>(
+    pub(crate) fn run_within<'t, L: Ledger>(
         &self,
-        machine: &VirtualMachine<'_, O>,
-        chunk: &Chunk,
+        machine: &VirtualMachine<'t, O>,
+        chunk: &'t Chunk,
         scopes: Scopes<'_>,
         blank: Blank,
     ) -> TeraResult<String>

@@ -3,6 +3,7 @@ use Rattle.std.specs.Prelude.{◌≡◌, ℕ, ℤ, ◌+◌, Bool, true, false, �
 use Rattle.tera_errors.specs.Site as site
 use Rattle.tera_errors.specs.declared.span.Span.{Span}
 use Rattle.tera_syntax_tree.specs.declared.expression.BinaryOperator.{BinaryOperator}
+use Rattle.tera_syntax_tree.specs.Tree.{Key}
 use Rattle.tera_values.specs.Val.{Val}
 use Rattle.tera_operators.specs.Operators.{is_comparison}
 use Rattle.tera_code.specs.Constant.{small_integer}
@@ -56,6 +57,27 @@ bound_name other = None
 abbrev pub started_loop : Instruction → Option (Option site.Name × site.Name × Bool × ℕ)
 started_loop (instruction.StartLoop key name counts size) = Some (key, name, counts, size)
 started_loop other = None
+
+-- the template that it includes
+abbrev pub included_template : Instruction → Option (site.Name × Span)
+included_template (instruction.TakeInclude name span) = Some (name, span)
+included_template other = None
+
+-- the block that it takes
+abbrev pub taken_block : Instruction → Option (site.Name × Span)
+taken_block (instruction.TakeBlock name span) = Some (name, span)
+taken_block other = None
+
+-- how many arguments the call has that takes what the next template above makes of a block
+abbrev pub taken_above : Instruction → Option (ℕ × Span)
+taken_above (instruction.TakeAbove arguments span) = Some (arguments, span)
+taken_above other = None
+
+-- the component that it calls, the keys of what it is given, and whether it has a body
+abbrev pub taken_component : Instruction → Option (site.Name × List (Option Key) × Bool × Span)
+taken_component (instruction.TakeComponent name keys has_body span) =
+    Some (name, keys, has_body, span)
+taken_component other = None
 
 -- how many instructions it passes where a loop ends
 abbrev pub ended_loop : Instruction → Option ℕ

@@ -5,6 +5,7 @@ ghost use Rattle.tera_code.specs.declared.instruction.Instruction.TheVariants as
 ghost use Rattle.tera_code.specs.Asked.{written_text, written_name, loaded_name, loaded_integer};
 ghost use Rattle.tera_code.specs.Asked.{loaded_constant, loaded_attribute, applied_operator, bound_name};
 ghost use Rattle.tera_code.specs.Asked.{started_loop, ended_loop, jump_length, jump_length_if_false};
+ghost use Rattle.tera_code.specs.Asked.{included_template, taken_block, taken_above, taken_component};
 ghost use Rattle.tera_code.specs.Asked.{is_write_top, is_next_turn, uses_top};
 ghost use Rattle.tera_code.specs.Called.{callee_of, called_by};
 ghost use Rattle.tera_code.specs.Printing.{puts};
@@ -12,7 +13,7 @@ ghost use Rattle.tera_code.specs.Printing.{puts};
 use crate::callee::Callee;
 use crate::constant::Constant;
 use crate::instruction::Instruction;
-use crate::lent_parts::{LentName, Text};
+use crate::lent_parts::{Keys, LentName, Text};
 use crate::packed::{Packed, Tables};
 use std::marker::Model;
 use tera_syntax_tree::BinaryOperator;
@@ -202,6 +203,68 @@ impl<'a> LentInstruction<'a> {
     {
         match *self.packed {
             Packed::EndLoop(skip) => Some(skip),
+            _ => None,
+        }
+    }
+
+    /// The template that it includes, by the reference to it.
+    #[inline(always)]
+    pub fn as_include(&self) -> Option<(LentName<'a>, Span)>
+        ensures means { IfSome result (λ p. self.now ≡ instruction.TakeInclude p.0 p.1) }
+        ensures exact { option_map (λ p. (p.0, p.1)) result ≡ included_template self.now }
+    {
+        match *self.packed {
+            Packed::TakeInclude { reference, span } => {
+                Some((self.tables.reference(reference), self.tables.span(span)))
+            }
+            _ => None,
+        }
+    }
+
+    /// The block that it takes.
+    #[inline(always)]
+    pub fn as_block(&self) -> Option<(&'a Name, Span)>
+        ensures means { IfSome result (λ p. self.now ≡ instruction.TakeBlock p.0.now p.1) }
+        ensures exact { option_map (λ p. (p.0.now, p.1)) result ≡ taken_block self.now }
+    {
+        match *self.packed {
+            Packed::TakeBlock { name, span } => {
+                Some((self.tables.whole_name(name), self.tables.span(span)))
+            }
+            _ => None,
+        }
+    }
+
+    /// What it takes of the templates above: how many arguments the call has, and where it stands.
+    #[inline(always)]
+    pub fn as_above(&self) -> Option<(usize, Span)>
+        ensures means { IfSome result (λ p. self.now ≡ instruction.TakeAbove p.0 p.1) }
+        ensures exact { option_map (λ p. (p.0, p.1)) result ≡ taken_above self.now }
+    {
+        match *self.packed {
+            Packed::TakeAbove { span, arguments } => Some((arguments, self.tables.span(span))),
+            _ => None,
+        }
+    }
+
+    /// The component that it calls: the reference to it, the keys of what it is given, and whether it has a body.
+    #[inline(always)]
+    pub fn as_component(&self) -> Option<(LentName<'a>, Keys<'a>, bool, Span)>
+        ensures means { IfSome result (λ p. self.now ≡ instruction.TakeComponent p.0 p.1 p.2 p.3) }
+        ensures exact { option_map (λ p. (p.0, p.1, p.2, p.3)) result ≡ taken_component self.now }
+    {
+        match *self.packed {
+            Packed::TakeComponent {
+                has_body,
+                reference,
+                keys,
+                span,
+            } => Some((
+                self.tables.reference(reference),
+                self.tables.lent_keys(keys),
+                has_body,
+                self.tables.span(span),
+            )),
             _ => None,
         }
     }

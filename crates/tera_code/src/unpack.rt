@@ -121,7 +121,7 @@ impl Tables {
 
     // The keys of a map, or of a component's attributes.
     #[inline(always)]
-    fn lent_keys(&self, number: u32) -> Keys<'_>
+    pub(crate) fn lent_keys(&self, number: u32) -> Keys<'_>
         requires { number < length self.now.keys.items }
         ensures { result ≡ get_or (shelf_of self.now).keys number [] }
     {

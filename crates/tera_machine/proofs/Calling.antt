@@ -32,14 +32,13 @@ use Rattle.tera_machine.specs.declared.blocks.OpenBlocks.{OpenBlocks}
 use Rattle.tera_machine.specs.declared.components.Called.{Called}
 use Rattle.tera_machine.specs.declared.configuration.Configuration.{Configuration}
 use Rattle.tera_machine.specs.declared.machine.VirtualMachine.{VirtualMachine}
-use Rattle.tera_machine.specs.Config.{Config, config_of}
+use Rattle.tera_machine.specs.Config.{config_of}
 use Rattle.tera_machine.specs.Flow.{Use}
 use Rattle.tera_machine.specs.Included.{names_in}
 use Rattle.tera_machine.specs.Subject.{IsLinked, kept_beside, template_of, place_at}
-use Rattle.tera_machine.specs.Bodies.{Entered, BodyRan}
+use Rattle.tera_machine.specs.Bodies.{Entered}
 use Rattle.tera_machine.specs.Apart.{Begins}
 use Rattle.tera_machine.specs.Components.{kept_meant, found_of, first_kept, IsCalled, Calls}
-use Rattle.tera_machine.proofs.Taking.{refused}
 
 -- Which component a name leads to.
 
@@ -162,7 +161,7 @@ module _ (w : World) (p : Place) (name : Name) (given : List (Name × Val)) (bod
       too_deep told l h = told_refused told message (deep false (le-ltb p.depth 20 l)) h
 
       -- and else it runs
-      pub is_called : (called : Called) → p.depth < 20 → called.context ≡ context → called.code.now ≡ found.chunk.now → called.depth ≡ suc p.depth → IsCalled w p q v called
+      pub is_called : (called : Called) → p.depth < 20 → called.context ≡ context → called.body.chunk.now ≡ found.chunk.now → called.depth ≡ suc p.depth → IsCalled w p q v called
       is_called called l x y z = record {
         file = c.file;
         body = c.body;
@@ -174,21 +173,16 @@ module _ (w : World) (p : Place) (name : Name) (given : List (Name × Val)) (bod
 -- A component's body that is taken.
 
 module _ (w : World) {O : Type 0} (m : VirtualMachine O) (file : Name) (q : Request) (u : Use) (b0 : OpenBlocks) (c0 : Configuration) where
-  -- a request that is refused
-  pub call_failed : (r : SeenError) (c1 : Config) (k : ℕ) → k ≡ 0 → Calls w (place_at m file b0 c0) q (config_of c0).run.vars (Err r) → BodyRan w (place_at m file b0 c0) q u (config_of c0) (Err r) c1 k
-  call_failed None c1 k z h = tt
-  call_failed (Some f) c1 k z h = refused f k z h
-
   module _ {called : Called} (is : IsCalled w (place_at m file b0 c0) q (config_of c0).run.vars called) (m1 : VirtualMachine O) (b1 : OpenBlocks) {outer : Outer} {c1 : Configuration} (template : m1.template ≡ None) (escapes : m1.autoescape ≡ m.autoescape) (depth : m1.depth ≡ called.depth) (names : b1.names ≡ []) (above : definers_of b1.above ≡ []) (included : names_in b1.included ≡ []) (begins : Begins (in_component called.context (around_of c0.scopes) (variables_of c0.scopes)) c0 outer c1) where
-    same_place : place_of_component (in_component called.context (around_of c0.scopes) (variables_of c0.scopes)) m.autoescape (suc m.depth) is.file ≡ place_at m1 called.code.now.file b1 c1
+    same_place : place_of_component (in_component called.context (around_of c0.scopes) (variables_of c0.scopes)) m.autoescape (suc m.depth) is.file ≡ place_at m1 called.body.chunk.now.file b1 c1
     same_place =
         let x = in_component called.context (around_of c0.scopes) (variables_of c0.scopes) in
         ap₂ (λ f d. record { template = None; file = f; around = x; autoescape = m.autoescape; depth = d; included = []; opened = []; above = [] }) (sym (ap (λ (l : Listing). l.file) is.code)) (sym (depth ∙ is.depth))
-        ∙ ap₂ (λ o a. record { template = o; file = called.code.now.file; around = a; autoescape = m.autoescape; depth = m1.depth; included = []; opened = []; above = [] }) (sym (ap (λ o. option_map (λ (f : FoundTemplate). f.name.now) o) template)) (sym begins.around)
-        ∙ ap₂ (λ e i. record { template = template_of m1; file = called.code.now.file; around = around_of c1.scopes; autoescape = e; depth = m1.depth; included = i; opened = []; above = [] }) (sym escapes) (sym included)
-        ∙ ap₂ (λ ns ds. record { template = template_of m1; file = called.code.now.file; around = around_of c1.scopes; autoescape = m1.autoescape; depth = m1.depth; included = names_in b1.included; opened = ns; above = ds }) (sym names) (sym above)
+        ∙ ap₂ (λ o a. record { template = o; file = called.body.chunk.now.file; around = a; autoescape = m.autoescape; depth = m1.depth; included = []; opened = []; above = [] }) (sym (ap (λ o. option_map (λ (f : FoundTemplate). f.name.now) o) template)) (sym begins.around)
+        ∙ ap₂ (λ e i. record { template = template_of m1; file = called.body.chunk.now.file; around = around_of c1.scopes; autoescape = e; depth = m1.depth; included = i; opened = []; above = [] }) (sym escapes) (sym included)
+        ∙ ap₂ (λ ns ds. record { template = template_of m1; file = called.body.chunk.now.file; around = around_of c1.scopes; autoescape = m1.autoescape; depth = m1.depth; included = names_in b1.included; opened = ns; above = ds }) (sym names) (sym above)
 
-    pub call_entered : Entered w (place_at m file b0 c0) q (config_of c0) (place_at m1 called.code.now.file b1 c1) called.code.now.code (config_of c1)
+    pub call_entered : Entered w (place_at m file b0 c0) q (config_of c0) (place_at m1 called.body.chunk.now.file b1 c1) called.body.chunk.now.code (config_of c1)
     call_entered = record {
       vars = nothing_set;
       body = is.body;

@@ -1,9 +1,8 @@
 -- Templates that are included follow the pure machine.
-use Rattle.std.proofs.Common.{◌≡◌, ℕ, Bool, true, false, [], ◌∷◌, Option, Some, None, Err, sym, ap, ap₂, ◌∙◌}
+use Rattle.std.proofs.Common.{◌≡◌, Bool, true, false, [], ◌∷◌, Option, Some, None, sym, ap, ap₂, ◌∙◌}
 use Rattle.std.specs.Prelude.{option_map, if◌then◌else◌}
 use Rattle.tera_errors.specs.Site.{Name}
 use Rattle.tera_errors.specs.declared.span.Span.{Span}
-use Rattle.tera_errors.specs.Answer.{SeenError}
 use Rattle.tera_syntax_tree.specs.Blocks.{is_among}
 use Rattle.tera_state.specs.Scope.{Variables, nothing_set, in_include}
 use Rattle.tera_state.specs.Scopes.{variables_of, around_of}
@@ -18,14 +17,12 @@ use Rattle.tera_machine.specs.declared.bodies.Outer.{Outer}
 use Rattle.tera_machine.specs.declared.blocks.OpenBlocks.{OpenBlocks}
 use Rattle.tera_machine.specs.declared.configuration.Configuration.{Configuration}
 use Rattle.tera_machine.specs.declared.machine.VirtualMachine.{VirtualMachine}
-use Rattle.tera_machine.specs.Config.{Config, config_of}
-use Rattle.tera_machine.specs.Flow.{Written}
+use Rattle.tera_machine.specs.Config.{config_of}
 use Rattle.tera_machine.specs.Included.{names_in}
 use Rattle.tera_machine.specs.Subject.{template_of, place_at}
-use Rattle.tera_machine.specs.Bodies.{Entered, BodyRan}
-use Rattle.tera_machine.specs.Includes.{IsTemplate, FindsTemplate}
+use Rattle.tera_machine.specs.Bodies.{Entered}
+use Rattle.tera_machine.specs.Includes.{IsTemplate}
 use Rattle.tera_machine.specs.Apart.{Begins}
-use Rattle.tera_machine.proofs.Taking.{refused}
 
 -- Which template an include takes.
 
@@ -61,11 +58,6 @@ module _ (w : World) (p : Place) (name : Name) (span : Span) (v : Variables) whe
 -- A body of a template that is taken.
 
 module _ (w : World) {O : Type 0} (m : VirtualMachine O) (file : Name) (name : Name) (span : Span) (b0 : OpenBlocks) (c0 : Configuration) where
-  -- a request that is refused
-  pub include_failed : (r : SeenError) (c1 : Config) (k : ℕ) → k ≡ 0 → FindsTemplate w (place_at m file b0 c0) (AnInclude name span) (config_of c0).run.vars (Err r) → BodyRan w (place_at m file b0 c0) (AnInclude name span) Written (config_of c0) (Err r) c1 k
-  include_failed None c1 k z h = tt
-  include_failed (Some f) c1 k z h = refused f k z h
-
   module _ {found : FoundTemplate} (is : IsTemplate w (place_at m file b0 c0) (AnInclude name span) (config_of c0).run.vars found) (m1 : VirtualMachine O) (b1 : OpenBlocks) {outer : Outer} {c1 : Configuration} (template : m1.template ≡ Some found) (escapes : m1.autoescape ≡ m.autoescape) (depth : m1.depth ≡ m.depth) (names : b1.names ≡ []) (above : definers_of b1.above ≡ []) (included : names_in b1.included ≡ found.name.now ∷ names_in b0.included) (begins : Begins (in_include (around_of c0.scopes) (variables_of c0.scopes)) c0 outer c1) where
     same_place : place_of_include (place_at m file b0 c0) (config_of c0).run.vars is.entry.0 ≡ place_at m1 found.body.now.file b1 c1
     same_place =

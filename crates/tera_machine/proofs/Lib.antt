@@ -24,3 +24,5 @@ pub mod Expressions
 pub mod Sections
 pub mod Chunks
 pub mod Conclusions
+pub mod Waiting
+pub mod Open

@@ -1,8 +1,6 @@
 -- Bodies that stand in a state of their own follow the pure machine, from their beginning to their end.
-use Rattle.std.proofs.Common.{◌≡◌, ◌≢◌, ℕ, List, [], ◌∷◌, ◌++◌, Some, None, Result, Ok, Err, refl, sym, ap, ap₂, ◌∙◌, append-nil}
-use Rattle.std.specs.Prelude.{OnOk, IfErr}
+use Rattle.std.proofs.Common.{◌≡◌, ◌≢◌, ℕ, List, [], ◌∷◌, ◌++◌, Some, None, refl, sym, ap, ap₂, ◌∙◌, append-nil}
 use Rattle.tera_errors.specs.Site.{Name, Text}
-use Rattle.tera_errors.specs.Answer.{SeenError, Lacks}
 use Rattle.tera_values.specs.Val.{text}
 use Rattle.tera_state.specs.Scope.{Frame, Around, Variables}
 use Rattle.tera_state.specs.Scopes.{above_of, variables_of, around_of, coming_of, coming_around}
@@ -13,16 +11,16 @@ use Rattle.tera_code.specs.Code.{Code}
 use Rattle.tera_machine.specs.declared.bodies.Outer.{Outer}
 use Rattle.tera_machine.specs.declared.blocks.OpenBlocks.{OpenBlocks}
 use Rattle.tera_machine.specs.declared.configuration.Configuration.{Configuration}
-use Rattle.tera_machine.specs.Config.{Config, Loop, config_of, loops_at}
+use Rattle.tera_machine.specs.Config.{Loop, config_of, loops_at}
 use Rattle.tera_machine.specs.Flow.{Use, Written, Pushed}
 use Rattle.tera_machine.specs.Effect.{beneath_in}
-use Rattle.tera_machine.specs.Exec.{Finished, used, left, left_in, Ends, EndsWithin, BodyEnds, Ran}
+use Rattle.tera_machine.specs.Exec.{Finished, used, left, left_in, Ends, BodyEnds}
 use Rattle.tera_machine.specs.Advance.{BodyWithin}
-use Rattle.tera_machine.specs.Bodies.{Entered, Stays, BodyRan}
+use Rattle.tera_machine.specs.Bodies.{Entered, Stays}
+use Rattle.tera_machine.specs.Wanted.{Noted}
 use Rattle.tera_machine.specs.Apart.{Begins, Rejoins, joined_in}
-use Rattle.tera_machine.proofs.Noting.{noted_none}
-use Rattle.tera_machine.proofs.Taking.{inner_within, can_leave, body_done, body_broke}
-use Rattle.tera_machine.proofs.Took.{no_captures, lacked, innermost_of, outer_of}
+use Rattle.tera_machine.proofs.Taking.{can_leave, body_done}
+use Rattle.tera_machine.proofs.Took.{innermost_of, outer_of}
 
 -- a state as one that stands above it has it
 abbrev pub reading : Scopes → Frame × Variables
@@ -47,90 +45,69 @@ below_some s f fs e none = no_cons (sym (ap (above_of s.bindings) none) ∙ e)
 abbrev pub KeepsText : Request → Type 0
 KeepsText q = (v : Variables) (r : Run) → left_of q v r ≡ record { vars = v; text = r.text; blocks = [] }
 
--- a request, the configuration where it is made, and the body that was entered for it
-module _ {w : World} {p : Place} {q : Request} {u : Use} (c0 : Configuration) {p1 : Place} {code : Code} (c1 : Configuration) {most : ℕ} (keeps : KeepsText q) (may : BodyWithin w p q u (config_of c0) most) (entry : Entered w p q (config_of c0) p1 code (config_of c1)) where
-  pub may_begin : EndsWithin w p1 code 0 (config_of c1) most
-  may_begin = inner_within entry may
+-- a body that stands in a state of its own
+module _ {c0 : Configuration} {c1 : Configuration} {inside : Around} {outer : Outer} (begins : Begins inside c0 outer c1) (seen : inside.above ≡ reading c0.scopes ∷ (around_of c0.scopes).above) {b1 b3 : OpenBlocks} (c3 : Configuration) (stay : Stays b1 c1 b3 c3) where
+  state_above : (around_of c3.scopes).above ≡ reading c0.scopes ∷ (around_of c0.scopes).above
+  state_above = ap (λ (a : Around). a.above) (stay.around ∙ begins.around) ∙ seen
 
-  -- a fault in the body
-  pub apart_failed : (r : SeenError) (c3 : Config) (j : ℕ) → Ran w p1 code (config_of c1) (Err r) c3 j → BodyRan w p q u (config_of c0) (Err r) c3 j
-  apart_failed None c3 j x = tt
-  apart_failed (Some f) c3 j x = body_broke entry f j x
+  -- has a state around its own
+  pub has_outer : c3.scopes.below ≢ []
+  has_outer = below_some c3.scopes _ _ state_above
 
-  module _ (c3 : Configuration) {j : ℕ} (over : Ends w p1 code 0 (config_of c1) (Finished (config_of c3) j)) where
-    ended : left q u (config_of c0) (config_of c3) ≢ None
-    ended = can_leave entry may (config_of c3) j over
+  module _ {u : Use} {c4 : Configuration} (rejoins : Rejoins u c3 outer c4) where
+    both : reading c4.scopes ∷ (around_of c4.scopes).above ≡ reading c0.scopes ∷ (around_of c0.scopes).above
+    both = sym rejoins.around ∙ state_above
 
-    -- a text is open around the body's
-    pub may_rejoin : (config_of c3).captures ≢ []
-    may_rejoin =
-        λ e. ended (no_captures (config_of c3).loops (config_of c3).captures q u (config_of c0) (config_of c3) e)
+    same_frame : reading c4.scopes ≡ reading c0.scopes
+    same_frame = ap (λ fs. first_above fs (reading c0.scopes)) both
 
-    module _ {inside : Around} {outer : Outer} (begins : Begins inside c0 outer c1) (seen : inside.above ≡ reading c0.scopes ∷ (around_of c0.scopes).above) {b1 b3 : OpenBlocks} (stay : Stays b1 c1 b3 c3) where
-      state_above : (around_of c3.scopes).above ≡ reading c0.scopes ∷ (around_of c0.scopes).above
-      state_above = ap (λ (a : Around). a.above) (stay.around ∙ begins.around) ∙ seen
+    same_vars : variables_of c4.scopes ≡ variables_of c0.scopes
+    same_vars = ap (λ (f : Frame × Variables). f.1) same_frame
 
-      -- and a state around its own
-      pub has_outer : c3.scopes.below ≢ []
-      has_outer = below_some c3.scopes _ _ state_above
+    same_around : around_of c4.scopes ≡ around_of c0.scopes
+    same_around =
+        ap₂ (λ f fs. record { frame = f; above = fs }) (ap (λ (f : Frame × Variables). f.0) same_frame) (ap rest_above both)
 
-      module _ (c4 : Configuration) (rejoins : Rejoins u c3 outer c4) where
-        both : reading c4.scopes ∷ (around_of c4.scopes).above ≡ reading c0.scopes ∷ (around_of c0.scopes).above
-        both = sym rejoins.around ∙ state_above
+    coming_back : coming_of c4.scopes ∷ coming_around c4.scopes ≡ coming_of c0.scopes ∷ coming_around c0.scopes
+    coming_back = sym rejoins.coming ∙ ap outer_of stay.beneath ∙ begins.coming
 
-        same_frame : reading c4.scopes ≡ reading c0.scopes
-        same_frame = ap (λ fs. first_above fs (reading c0.scopes)) both
+    same_loops : loops_at outer.places (coming_of c4.scopes) ≡ (config_of c0).loops
+    same_loops = ap₂ (λ ps tss. loops_at ps tss) begins.places (ap innermost_of coming_back)
 
-        same_vars : variables_of c4.scopes ≡ variables_of c0.scopes
-        same_vars = ap (λ (f : Frame × Variables). f.1) same_frame
+    -- the body around goes on as it was, where the same is open as before
+    pub apart_stayed : (b0 b4 : OpenBlocks) → b4.names ≡ b0.names → b4.above ≡ b0.above → b4.included ≡ b0.included → Noted b0.wanted [] b4.wanted → Stays b0 c0 b4 c4
+    apart_stayed b0 b4 names above included noted = record {
+      names = names;
+      above = above;
+      included = included;
+      around = same_around;
+      beneath = ap₂ (λ ps tss. beneath_in ps (innermost_of tss) ∷ outer_of tss) (rejoins.places ∙ begins.places) coming_back;
+      since = [];
+      ended = rejoins.ended ∙ begins.ended ∙ sym (append-nil c0.ended.all);
+      noted = noted;
+    }
 
-        same_around : around_of c4.scopes ≡ around_of c0.scopes
-        same_around =
-            ap₂ (λ f fs. record { frame = f; above = fs }) (ap (λ (f : Frame × Variables). f.0) same_frame) (ap rest_above both)
+    -- what is used of a body of which the text alone is kept
+    used_joined : (x : Use) (t : Text) (ts : List Text) (v : Variables) (bs : List (Name × Text)) (loops : List Loop) → v ≡ (config_of c0).run.vars → bs ≡ (config_of c0).run.blocks → loops ≡ (config_of c0).loops → used x (record { vars = (config_of c0).run.vars; text = (config_of c3).run.text; blocks = [] }) (record { operands = (config_of c3).operands; captures = ts; loops = (config_of c0).loops; run = record (config_of c0).run { text = t } }) ≡ joined_in x (t ∷ ts) v bs loops (config_of c3)
+    used_joined Written t ts v bs loops e f g =
+        ap₂ (λ y ys. record { operands = (config_of c3).operands; captures = ts; loops = (config_of c0).loops; run = record { vars = y; text = t ++ (config_of c3).run.text; blocks = ys } }) (sym e) (append-nil (config_of c0).run.blocks ∙ sym f)
+        ∙ ap (λ ls. record { operands = (config_of c3).operands; captures = ts; loops = ls; run = record { vars = v; text = t ++ (config_of c3).run.text; blocks = bs } }) (sym g)
+    used_joined (Pushed safe span) t ts v bs loops e f g =
+        ap₂ (λ y ys. record { operands = record { value = text (config_of c3).run.text safe; span = span } ∷ (config_of c3).operands; captures = ts; loops = (config_of c0).loops; run = record { vars = y; text = t; blocks = ys } }) (sym e) (append-nil (config_of c0).run.blocks ∙ sym f)
+        ∙ ap (λ ls. record { operands = record { value = text (config_of c3).run.text safe; span = span } ∷ (config_of c3).operands; captures = ts; loops = ls; run = record { vars = v; text = t; blocks = bs } }) (sym g)
 
-        coming_back : coming_of c4.scopes ∷ coming_around c4.scopes ≡ coming_of c0.scopes ∷ coming_around c0.scopes
-        coming_back = sym rejoins.coming ∙ ap outer_of stay.beneath ∙ begins.coming
+    module _ {w : World} {p : Place} {q : Request} (keeps : KeepsText q) {p1 : Place} {code : Code} {most : ℕ} (may : BodyWithin w p q u (config_of c0) most) (entry : Entered w p q (config_of c0) p1 code (config_of c1)) {j : ℕ} (over : Ends w p1 code 0 (config_of c1) (Finished (config_of c3) j)) where
+      ended : left q u (config_of c0) (config_of c3) ≢ None
+      ended = can_leave entry may (config_of c3) j over
 
-        same_loops : loops_at outer.places (coming_of c4.scopes) ≡ (config_of c0).loops
-        same_loops = ap₂ (λ ps tss. loops_at ps tss) begins.places (ap innermost_of coming_back)
+      left_joined : (ls : List Loop) (ts : List Text) (v : Variables) (bs : List (Name × Text)) (loops : List Loop) → v ≡ (config_of c0).run.vars → bs ≡ (config_of c0).run.blocks → loops ≡ (config_of c0).loops → left_in ls ts q u (config_of c0) (config_of c3) ≢ None → left_in ls ts q u (config_of c0) (config_of c3) ≡ Some (joined_in u ts v bs loops (config_of c3))
+      left_joined (l ∷ ls) ts v bs loops e f g h = absurd (h refl)
+      left_joined [] [] v bs loops e f g h = absurd (h refl)
+      left_joined [] (t ∷ ts) v bs loops e f g h =
+          ap (λ done. Some (used u done (record { operands = (config_of c3).operands; captures = ts; loops = (config_of c0).loops; run = record (config_of c0).run { text = t } }))) (keeps (config_of c0).run.vars (config_of c3).run)
+          ∙ ap Some (used_joined u t ts v bs loops e f g)
 
-        -- what is used of a body of which the text alone is kept
-        used_joined : (x : Use) (t : Text) (ts : List Text) (v : Variables) (bs : List (Name × Text)) (loops : List Loop) → v ≡ (config_of c0).run.vars → bs ≡ (config_of c0).run.blocks → loops ≡ (config_of c0).loops → used x (record { vars = (config_of c0).run.vars; text = (config_of c3).run.text; blocks = [] }) (record { operands = (config_of c3).operands; captures = ts; loops = (config_of c0).loops; run = record (config_of c0).run { text = t } }) ≡ joined_in x (t ∷ ts) v bs loops (config_of c3)
-        used_joined Written t ts v bs loops e f g =
-            ap₂ (λ y ys. record { operands = (config_of c3).operands; captures = ts; loops = (config_of c0).loops; run = record { vars = y; text = t ++ (config_of c3).run.text; blocks = ys } }) (sym e) (append-nil (config_of c0).run.blocks ∙ sym f)
-            ∙ ap (λ ls. record { operands = (config_of c3).operands; captures = ts; loops = ls; run = record { vars = v; text = t ++ (config_of c3).run.text; blocks = bs } }) (sym g)
-        used_joined (Pushed safe span) t ts v bs loops e f g =
-            ap₂ (λ y ys. record { operands = record { value = text (config_of c3).run.text safe; span = span } ∷ (config_of c3).operands; captures = ts; loops = (config_of c0).loops; run = record { vars = y; text = t; blocks = ys } }) (sym e) (append-nil (config_of c0).run.blocks ∙ sym f)
-            ∙ ap (λ ls. record { operands = record { value = text (config_of c3).run.text safe; span = span } ∷ (config_of c3).operands; captures = ts; loops = ls; run = record { vars = v; text = t; blocks = bs } }) (sym g)
-
-        left_joined : (ls : List Loop) (ts : List Text) (v : Variables) (bs : List (Name × Text)) (loops : List Loop) → v ≡ (config_of c0).run.vars → bs ≡ (config_of c0).run.blocks → loops ≡ (config_of c0).loops → left_in ls ts q u (config_of c0) (config_of c3) ≢ None → left_in ls ts q u (config_of c0) (config_of c3) ≡ Some (joined_in u ts v bs loops (config_of c3))
-        left_joined (l ∷ ls) ts v bs loops e f g h = absurd (h refl)
-        left_joined [] [] v bs loops e f g h = absurd (h refl)
-        left_joined [] (t ∷ ts) v bs loops e f g h =
-            ap (λ done. Some (used u done (record { operands = (config_of c3).operands; captures = ts; loops = (config_of c0).loops; run = record (config_of c0).run { text = t } }))) (keeps (config_of c0).run.vars (config_of c3).run)
-            ∙ ap Some (used_joined u t ts v bs loops e f g)
-
-        took : BodyEnds w p q u (config_of c0) (Finished (config_of c4) j)
-        took =
-            body_done entry (config_of c3) (config_of c4) j over (left_joined (config_of c3).loops (config_of c3).captures (variables_of c4.scopes) outer.ended.all (loops_at outer.places (coming_of c4.scopes)) same_vars begins.ended same_loops ended ∙ ap Some (sym rejoins.config))
-
-        stayed : (b0 : OpenBlocks) → Stays b0 c0 b0 c4
-        stayed b0 = record {
-          names = refl;
-          above = refl;
-          included = refl;
-          around = same_around;
-          beneath = ap₂ (λ ps tss. beneath_in ps (innermost_of tss) ∷ outer_of tss) (rejoins.places ∙ begins.places) coming_back;
-          since = [];
-          ended = rejoins.ended ∙ begins.ended ∙ sym (append-nil c0.ended.all);
-          noted = noted_none b0.wanted;
-        }
-
-      -- the body is over, unless memory was refused
-      pub apart_over : (c4 : Configuration) (r : Result (Unit {0}) SeenError) → OnOk r (Rejoins u c3 outer c4) → IfErr r Lacks → BodyRan w p q u (config_of c0) r (config_of c4) j
-      apart_over c4 (Ok done) rejoins lacks = took c4 rejoins
-      apart_over c4 (Err r) rejoins lacks = lacked w p q u (config_of c0) (config_of c4) j r lacks
-
-      pub apart_stayed : (b0 : OpenBlocks) (c4 : Configuration) (r : Result (Unit {0}) SeenError) → OnOk r (Rejoins u c3 outer c4) → OnOk r (Stays b0 c0 b0 c4)
-      apart_stayed b0 c4 (Ok done) rejoins = stayed c4 rejoins b0
-      apart_stayed b0 c4 (Err r) rejoins = tt
+      -- the body is over
+      pub apart_over : BodyEnds w p q u (config_of c0) (Finished (config_of c4) j)
+      apart_over =
+          body_done entry (config_of c3) (config_of c4) j over (left_joined (config_of c3).loops (config_of c3).captures (variables_of c4.scopes) outer.ended.all (loops_at outer.places (coming_of c4.scopes)) same_vars begins.ended same_loops ended ∙ ap Some (sym rejoins.config))

@@ -25,8 +25,7 @@ use Rattle.tera_machine.specs.Exec.{End, Finished, Broken, Stuck, after, within_
 use Rattle.tera_machine.specs.Advance.{Leads, Advance}
 use Rattle.tera_machine.specs.Subject.{engine_of, place_at, here_of}
 use Rattle.tera_machine.proofs.Ends.{after-none, ends_here, step_ends, within_step, further, on_leads, skip_leads, to_leads, out_leads}
-use Rattle.tera_machine.proofs.Places.{nothing_behind}
-use Rattle.tera_machine.proofs.Taking.{AtAsk}
+use Rattle.tera_machine.specs.Open.{AtAsk}
 
 within_cond : (m : ℕ) (b : Bool) (x : End) → Within m (cond b x Stuck) → (b ≡ true) × Within m x
 within_cond m true x h = (refl, h)
@@ -136,12 +135,19 @@ module _ {most : ℕ} {w : World} {place : Place} {code : Code} {c0 : Config} wh
             arrived (p + k) x (to_leads w place code ip p k c c2 i e d x.1)
 
         -- at the end of the code, which an instruction goes to
-        pub went_out : {c2 : Config} {f : declared.Flow} → effect here (ip + 1) i c ≡ Goes c2 (flow_of f) → f ≡ flow.Out → Ends w place code 0 c0 (Finished c2 (n2 - n0))
+        pub went_out : {c2 : Config} {f : declared.Flow} → effect here (ip + 1) i c ≡ Goes c2 (flow_of f) → f ≡ flow.Out → Advance most w place code c0 n0 (length code) c2 n2
         went_out {c2} {f} a is =
             let at_least = g.counted in
-            let led = out_leads w place code ip c c2 i e (at_place a flow.Out is) in
-            let z : n - n0 + (1 + 0) ≡ n2 - n0 = omega arith in
-            subst (λ k. Ends w place code 0 c0 (Finished c2 k)) z (g.leads.by (Finished c2 (1 + 0)) tt (led.by (Finished c2 0) tt (ends_here w place code (length code) c2 (nothing_behind code))))
+            let d = at_place a flow.Out is in
+            let x = within_step w place code ip c i (Goes c2 Out) (most - n) g.within e d in
+            let left : most - n - 1 ≡ most - n2 = omega arith in
+            let taken : n2 - n0 ≡ n - n0 + 1 = omega arith in
+            record {
+              counted = omega arith;
+              bounded = λ h. omega (arith, x.1);
+              within = record { depth = x.0; within = subst (λ z. Within z (exec w x.0 place code (length code) c2)) left x.2 };
+              leads = further w place code 0 c0 (n - n0) 1 (n2 - n0) ip (length code) c c2 g.leads taken (out_leads w place code ip c c2 i e d);
+            }
 
         -- at an instruction that takes another body
         pub at_ask : {c2 : Config} {f : declared.Flow} {a : Asked} → effect here (ip + 1) i c ≡ Goes c2 (flow_of f) → f ≡ flow.Ask a → AtAsk most w place code c0 n0 ip c n i c2 n2 (request_of a) (use_of a)

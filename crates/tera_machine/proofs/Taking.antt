@@ -1,19 +1,18 @@
 -- The machine's loop follows the pure machine into a body and back.
 use Rattle.std.proofs.Common.{◌≡◌, ◌≢◌, ℕ, ◌+◌, ◌-◌, ◌<◌, ◌≤◌, Option, Some, None, refl, sym, ap, ◌∙◌, subst, ⊎_elim, arith}
 use Rattle.std.proofs.lemmas.Bool.{cases_lt}
-use Rattle.std.specs.Prelude.{slice_get}
 use Rattle.tera_errors.specs.Fault.{Fault}
 use Rattle.tera_meaning.specs.Run.{Request}
-use Rattle.tera_meaning.specs.Whole.{World, Place, Refuses, way, here_at}
+use Rattle.tera_meaning.specs.Whole.{World, Place, Refuses, way}
 use Rattle.tera_code.specs.declared.instruction.Instruction.{Instruction}
 use Rattle.tera_code.specs.Code.{Code}
 use Rattle.tera_machine.specs.Config.{Config}
 use Rattle.tera_machine.specs.Flow.{Use, Ask}
 use Rattle.tera_machine.specs.Did.{Goes}
-use Rattle.tera_machine.specs.Effect.{effect}
 use Rattle.tera_machine.specs.Exec.{End, Finished, Broken, Unfinished, Stuck, then_on, entered, left, back, leaving, taken, body_by, exec, Within, IsOver, Ends, EndsWithin, BodyEnds}
 use Rattle.tera_machine.specs.Advance.{Advance, BodyWithin}
 use Rattle.tera_machine.specs.Bodies.{Entered}
+use Rattle.tera_machine.specs.Open.{AtAsk}
 use Rattle.tera_machine.proofs.Ends.{within_less, within_step, body_deeper, same_end, further, ask_leads, ask_breaks}
 
 within_over : (m : ℕ) (o : End) → Within m o → IsOver o
@@ -37,13 +36,6 @@ within_leaving m q u c (Finished d n) h = within_back (left q u c d) h
 within_leaving m q u c (Broken f n) h = h
 within_leaving m q u c Unfinished h = h
 within_leaving m q u c Stuck h = h
-
--- at an instruction that takes another body
-pub record AtAsk (most : ℕ) (w : World) (p : Place) (code : Code) (c0 : Config) (n0 ip : ℕ) (c : Config) (n : ℕ) (i : Instruction) (c2 : Config) (n2 : ℕ) (q : Request) (u : Use) : Type 0 where
-  pub progress : Advance most w p code c0 n0 ip c n
-  pub is : slice_get code ip ≡ Some i
-  pub count : n2 ≡ n + 1
-  pub did : effect (here_at w p) (ip + 1) i c ≡ Goes c2 (Ask q u)
 
 module _ {most : ℕ} {w : World} {p : Place} {code : Code} {c0 : Config} {n0 ip : ℕ} {c : Config} {n : ℕ} {i : Instruction} {c2 : Config} {n2 : ℕ} {q : Request} {u : Use} (at : AtAsk most w p code c0 n0 ip c n i c2 n2 q u) where
   ask_step : (k : ℕ) × (1 ≤ most - n) × Within (most - n - 1) (then_on (body_by w (exec w k) p q u c2) (exec w k p code (ip + 1)))

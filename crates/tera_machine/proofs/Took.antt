@@ -1,13 +1,11 @@
 -- Real bodies that are entered and left follow the pure machine.
-use Rattle.std.proofs.Common.{◌≡◌, ◌≢◌, ℕ, ◌-◌, ◌≤◌, true, List, [], ◌∷◌, ◌++◌, Some, None, Result, Ok, Err, refl, sym, ap, ap₂, ◌∙◌, subst, append_assoc, append-nil}
+use Rattle.std.proofs.Common.{◌≡◌, ◌≢◌, ℕ, true, List, [], ◌∷◌, ◌++◌, Some, None, Ok, Err, refl, sym, ap, ap₂, ◌∙◌, subst, append_assoc, append-nil}
 use Rattle.tera_errors.specs.Site.{Name, Text}
-use Rattle.std.specs.Prelude.{OnOk, IfErr}
-use Rattle.tera_errors.specs.Answer.{SeenError, Lacks}
+use Rattle.tera_errors.specs.Answer.{SeenError}
 use Rattle.tera_state.specs.Scope.{Turn}
 use Rattle.tera_state.specs.Scopes.{around_of, coming_of, coming_around}
 use Rattle.tera_meaning.specs.Run.{Request}
 use Rattle.tera_meaning.specs.Whole.{World, Place, Takes}
-use Rattle.tera_code.specs.declared.instruction.Instruction.{Instruction}
 use Rattle.tera_registry.specs.Templates.{definers_of}
 use Rattle.tera_registry.specs.declared.templates.Definer.{Definer as Nearest}
 use Rattle.tera_code.specs.Listing.{Listing}
@@ -23,15 +21,15 @@ use Rattle.tera_machine.specs.Config.{Config, Loop, config_of, loops_at}
 use Rattle.tera_machine.specs.Flow.{Flow, Use, Written, Pushed, request_of, use_of}
 use Rattle.tera_machine.specs.Did.{Did, Goes}
 use Rattle.tera_machine.specs.Effect.{beneath, beneath_in}
-use Rattle.tera_machine.specs.Exec.{End, Finished, entered, used, left, left_in, Ends, EndsWithin, BodyEnds, Ran}
+use Rattle.tera_machine.specs.Exec.{End, Finished, entered, used, left, left_in, Ends, BodyEnds}
 use Rattle.tera_machine.specs.Advance.{BodyWithin}
 use Rattle.tera_machine.specs.Included.{names_in}
 use Rattle.tera_machine.specs.Subject.{template_of, place_at, place_of}
-use Rattle.tera_machine.specs.Bodies.{opened_by, closed_by, IsBody, FindsBody, Entered, Enters, closed_in, Leaves, Stays, BodyRan}
+use Rattle.tera_machine.specs.Bodies.{opened_by, closed_by, IsBody, FindsBody, Entered, Enters, closed_in, Leaves, Stays}
 use Rattle.tera_machine.specs.Wanted.{ended_by}
 use Rattle.tera_machine.proofs.Together.{Last, last_still}
 use Rattle.tera_machine.proofs.Noting.{noted_then, noted_from}
-use Rattle.tera_machine.proofs.Taking.{AtAsk, body_failed, refused, inner_within, can_leave, body_done, body_broke}
+use Rattle.tera_machine.proofs.Taking.{can_leave, body_done}
 
 pub place_same : {O : Type 0} (m : VirtualMachine O) (file file0 : Name) {b0 b : OpenBlocks} {c0 c : Configuration} → file ≡ file0 → Stays b0 c0 b c → place_at m file b c ≡ place_at m file0 b0 c0
 place_same m file file0 {b0} {b} {c0} {c} e s =
@@ -80,10 +78,6 @@ at_place {w} {p} {p0} {q} {u} {c} {n} e h = subst (λ x. BodyWithin w x q u c n)
 
 pub ends_at : {w : World} {p p0 : Place} {q : Request} {u : Use} {c : Config} {o : End} → p ≡ p0 → BodyEnds w p q u c o → BodyEnds w p0 q u c o
 ends_at {w} {p} {p0} {q} {u} {c} {o} e h = subst (λ x. BodyEnds w x q u c o) e h
-
-pub take_failed : {most : ℕ} {w : World} {p p0 : Place} {code : Code} {c0 : Config} {n0 ip : ℕ} {c : Config} {n : ℕ} {i : Instruction} {c2 : Config} {n2 : ℕ} {q : Request} {u : Use} → p ≡ p0 → AtAsk most w p0 code c0 n0 ip c n i c2 n2 q u → (r : SeenError) (c3 : Config) (n3 : ℕ) → n2 ≤ n3 → BodyRan w p q u c2 (Err r) c3 (n3 - n2) → Ran w p0 code c0 (Err r) c3 (n3 - n0)
-take_failed e at None c3 n3 le h = tt
-take_failed e at (Some f) c3 n3 le h = body_failed at f n3 le (ends_at e h)
 
 -- what was found is entered
 pub enters : {w : World} {O : Type 0} (m : VirtualMachine O) (file : Name) (a : Asked) (b0 : OpenBlocks) (c0 : Configuration) (d : Nearest) (b : OpenBlocks) (c : Configuration) → IsBody w (place_at m file b0 c0) a (config_of c0).run.vars d → b.names ≡ opened_by a b0.names → b.above ≡ d.above → b.included ≡ b0.included → c.scopes ≡ c0.scopes → config_of c ≡ entered (config_of c0).run.vars (config_of c0) → Entered w (place_at m file b0 c0) (request_of a) (config_of c0) (place_at m d.chunk.now.file b c) d.chunk.now.code (config_of c)
@@ -147,20 +141,14 @@ pub no_captures : (ls : List Loop) (cs : List Text) (q : Request) (u : Use) (c0 
 no_captures (l ∷ ls) cs q u c0 c3 e = refl
 no_captures [] cs q u c0 c3 e = ap (λ ts. left_in [] ts q u c0 c3) e
 
-pub lacked : (w : World) (p : Place) (q : Request) (u : Use) (c c' : Config) (k : ℕ) (r : SeenError) → r ≡ None → BodyRan w p q u c (Err r) c' k
-lacked w p q u c c' k r e = subst (λ x. BodyRan w p q u c (Err x) c' k) (sym e) tt
-
 module _ (w : World) {O : Type 0} (m : VirtualMachine O) (file : Name) (a : Asked) (b0 : OpenBlocks) (c0 : Configuration) {most : ℕ} (may : BodyWithin w (place_at m file b0 c0) (request_of a) (use_of a) (config_of c0) most) where
   module _ {inside : Inside} {b1 : OpenBlocks} {c1 : Configuration} (entry : Enters w m file a b0 c0 (Ok inside) b1 c1) where
-    pub may_run : EndsWithin w (place_at m inside.definer.chunk.now.file b1 c1) inside.definer.chunk.now.code 0 (config_of c1) most
-    may_run = inner_within entry.0 may
-
     module _ (c3 : Configuration) {j : ℕ} (over : Ends w (place_at m inside.definer.chunk.now.file b1 c1) inside.definer.chunk.now.code 0 (config_of c1) (Finished (config_of c3) j)) where
       ended : left (request_of a) (use_of a) (config_of c0) (config_of c3) ≢ None
       ended = can_leave entry.0 may (config_of c3) j over
 
       -- a text is open around the body's
-      pub may_leave : (config_of c3).captures ≢ []
+      may_leave : (config_of c3).captures ≢ []
       may_leave = λ e. ended (no_captures (config_of c3).loops (config_of c3).captures (request_of a) (use_of a) (config_of c0) (config_of c3) e)
 
       module _ {b3 : OpenBlocks} (stay : Stays b1 c1 b3 c3) (b4 : OpenBlocks) (c4 : Configuration) where
@@ -178,7 +166,8 @@ module _ (w : World) {O : Type 0} (m : VirtualMachine O) (file : Name) (a : Aske
         same_outer : coming_around c3.scopes ≡ coming_around c0.scopes
         same_outer = ap outer_of same_beneath
 
-        took : Leaves a inside b3 c3 b4 c4 → BodyEnds w (place_at m file b0 c0) (request_of a) (use_of a) (config_of c0) (Finished (config_of c4) j)
+        -- the body is over
+        pub took : Leaves a inside b3 c3 b4 c4 → BodyEnds w (place_at m file b0 c0) (request_of a) (use_of a) (config_of c0) (Finished (config_of c4) j)
         took leaves =
             let loops = ap₂ (λ ps tss. loops_at ps tss) (sym entry.1.places) (sym same_coming) in
             body_done entry.0 (config_of c3) (config_of c4) j over (left_closed (config_of c3).loops (config_of c3).captures a (config_of c0) (config_of c3) inside.outer.ended.all (loops_at inside.outer.places (coming_of c3.scopes)) loops (sym entry.1.ended) ended ∙ ap Some (sym leaves.config))
@@ -192,7 +181,7 @@ module _ (w : World) {O : Type 0} (m : VirtualMachine O) (file : Name) (a : Aske
             ∙ closed_blocks (config_of c3).captures a inside.outer.ended.all (loops_at inside.outer.places (coming_of c3.scopes)) (config_of c3) may_leave
             ∙ ap₂ (λ xs ys. xs ++ (ys ++ ended_by a (config_of c3).run.text)) entry.1.ended (stay.ended ∙ ap (λ xs. xs ++ stay.since) none_before)
 
-        stayed : Leaves a inside b3 c3 b4 c4 → Stays b0 c0 b4 c4
+        pub stayed : Leaves a inside b3 c3 b4 c4 → Stays b0 c0 b4 c4
         stayed leaves = record {
           names = leaves.names ∙ ap (closed_by a) (stay.names ∙ entry.1.names) ∙ closed_opened a b0.names;
           above = leaves.above ∙ entry.1.above;
@@ -203,25 +192,6 @@ module _ (w : World) {O : Type 0} (m : VirtualMachine O) (file : Name) (a : Aske
           ended = ended_since leaves;
           noted = noted_from _ entry.1.wanted (noted_then stay.since _ stay.noted leaves.noted);
         }
-
-        -- the body is over, unless memory was refused
-        pub body_over : (r : Result (Unit {0}) SeenError) → OnOk r (Leaves a inside b3 c3 b4 c4) → IfErr r Lacks → BodyRan w (place_at m file b0 c0) (request_of a) (use_of a) (config_of c0) r (config_of c4) j
-        body_over (Ok done) leaves lacks = took leaves
-        body_over (Err r) leaves lacks = lacked w (place_at m file b0 c0) (request_of a) (use_of a) (config_of c0) (config_of c4) j r lacks
-
-        pub body_stayed : (r : Result (Unit {0}) SeenError) → OnOk r (Leaves a inside b3 c3 b4 c4) → OnOk r (Stays b0 c0 b4 c4)
-        body_stayed (Ok done) leaves = stayed leaves
-        body_stayed (Err r) leaves = tt
-
-    -- a fault in the body
-    pub run_failed : (r : SeenError) (c3 : Config) (j : ℕ) → Ran w (place_at m inside.definer.chunk.now.file b1 c1) inside.definer.chunk.now.code (config_of c1) (Err r) c3 j → BodyRan w (place_at m file b0 c0) (request_of a) (use_of a) (config_of c0) (Err r) c3 j
-    run_failed None c3 j x = tt
-    run_failed (Some f) c3 j x = body_broke entry.0 f j x
-
-  -- a request that is refused
-  pub enter_failed : (r : SeenError) (b1 : OpenBlocks) (c1 : Configuration) (k : ℕ) → k ≡ 0 → Enters w m file a b0 c0 (Err r) b1 c1 → BodyRan w (place_at m file b0 c0) (request_of a) (use_of a) (config_of c0) (Err r) (config_of c1) k
-  enter_failed None b1 c1 k z h = tt
-  enter_failed (Some f) b1 c1 k z h = refused f k z h
 
 -- what is not found is not entered
 pub not_found : (w : World) {O : Type 0} (m : VirtualMachine O) (file : Name) (a : Asked) (b0 : OpenBlocks) (c0 : Configuration) (r : SeenError) (b : OpenBlocks) (c : Configuration) → FindsBody w (place_at m file b0 c0) a (config_of c0).run.vars (Err r) → Enters w m file a b0 c0 (Err r) b c

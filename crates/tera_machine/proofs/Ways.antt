@@ -1,5 +1,5 @@
 -- Who defines a block for the template that is rendered, and which template a name leads to.
-use Rattle.std.proofs.Common.{◌≡◌, Option, Some, None, sym, ap, ap₂, ◌∙◌, subst}
+use Rattle.std.proofs.Common.{◌≡◌, Option, Some, sym, ap, ap₂, ◌∙◌, subst}
 use Rattle.std.specs.Prelude.{option_map}
 use Rattle.tera_errors.specs.Site.{Name}
 use Rattle.tera_meaning.specs.Lineage.{definers}
@@ -9,7 +9,7 @@ use Rattle.tera_registry.specs.Templates.{with_templates, definers_of, Finds}
 use Rattle.tera_registry.specs.declared.templates.FoundTemplate.{FoundTemplate}
 use Rattle.tera_registry.specs.declared.templates.Definers.{Definers}
 use Rattle.tera_machine.specs.declared.machine.VirtualMachine.{VirtualMachine}
-use Rattle.tera_machine.specs.Subject.{IsLinked, is_from, kept_beside, template_of}
+use Rattle.tera_machine.specs.Subject.{IsLinked, is_from, template_of}
 
 -- those who define a block for the template that is rendered
 pub of_template : {O : Type 0} (m : VirtualMachine O) (w : World) (found : FoundTemplate) (name : Name) (ds : Definers) (text : Name) → IsLinked m w → m.template ≡ Some found → text ≡ name → ((s : Registry) → definers_of ds ≡ definers (with_templates s found.templates.now) (Some found.name.now) text) → definers_of ds ≡ definers w.registry (template_of m) name
@@ -24,13 +24,3 @@ of_template m w found name ds text linked is e h =
 pub found_in : {O : Type 0} (m : VirtualMachine O) (w : World) (name text : Name) (found : Option FoundTemplate) → IsLinked m w → text ≡ name → ((s : Registry) → Finds (with_templates s m.templates.now) text found) → Finds w.registry name found
 found_in m w name text found linked e h =
     subst (λ n. Finds w.registry n found) e (subst (λ s. Finds s text found) linked.1.0 (h w.registry))
-
--- a machine for a template that was found among those of the registry
-pub linked_in : {O : Type 0} (m m1 : VirtualMachine O) (w : World) (found : FoundTemplate) → IsLinked m w → m1.template ≡ Some found → m1.templates.now ≡ found.templates.now → m1.beside ≡ m.beside → with_templates w.registry found.templates.now ≡ w.registry → IsLinked m1 w
-linked_in m m1 w found linked is e beside among =
-    (subst (λ o. is_from o w.registry) (sym is) among, (ap (with_templates w.registry) e ∙ among, ap kept_beside beside ∙ linked.1.1))
-
--- and one for a component
-pub linked_alone : {O : Type 0} (m m1 : VirtualMachine O) (w : World) → IsLinked m w → m1.template ≡ None → m1.templates.now ≡ m.templates.now → m1.beside ≡ m.beside → IsLinked m1 w
-linked_alone m m1 w linked is e beside =
-    (subst (λ o. is_from o w.registry) (sym is) tt, (ap (with_templates w.registry) e ∙ linked.1.0, ap kept_beside beside ∙ linked.1.1))

@@ -1,5 +1,5 @@
 -- How the machine takes the body of a block, and how it leaves it.
-use Rattle.std.specs.Prelude.{◌≡◌, ℕ, List, [], ◌∷◌, ◌++◌, drop, Some, None, Result, Ok, Err}
+use Rattle.std.specs.Prelude.{◌≡◌, List, [], ◌∷◌, ◌++◌, drop, Some, None, Result, Ok, Err}
 use Rattle.tera_errors.specs.Site.{Name, Text}
 use Rattle.tera_errors.specs.Answer.{SeenError}
 use Rattle.tera_syntax_tree.specs.Tree.{Nodes}
@@ -20,7 +20,7 @@ use Rattle.tera_machine.specs.declared.blocks.OpenBlocks.{OpenBlocks}
 use Rattle.tera_machine.specs.Config.{Config, Loop, config_of, loops_at}
 use Rattle.tera_machine.specs.Flow.{Use, request_of, use_of}
 use Rattle.tera_machine.specs.Effect.{beneath}
-use Rattle.tera_machine.specs.Exec.{Finished, Broken, entered, used, BodyEnds}
+use Rattle.tera_machine.specs.Exec.{entered, used}
 use Rattle.tera_machine.specs.Subject.{place_at}
 use Rattle.tera_machine.specs.Wanted.{ended_by, Noted}
 
@@ -119,10 +119,3 @@ pub record Stays (blocks0 : OpenBlocks) (c0 : Configuration) (blocks : OpenBlock
   pub since : List (Name × Text)
   pub ended : c.ended.all ≡ c0.ended.all ++ since
   pub noted : Noted blocks0.wanted since blocks.wanted
-
--- a request was answered as the machine does, unless memory was refused
-abbrev pub BodyRan : World → Place → Request → Use → Config → Result (Unit {0}) SeenError → Config
-    → ℕ → Type 0
-BodyRan w p q u c (Ok done) c' k = BodyEnds w p q u c (Finished c' k)
-BodyRan w p q u c (Err None) c' k = Unit {0}
-BodyRan w p q u c (Err (Some f)) c' k = BodyEnds w p q u c (Broken f k)

@@ -33,7 +33,7 @@ pub record IsCalled (w : World) (p : Place) (q : Request) (v : Variables)
   pub takes : way w p q v
       ≡ Takes (place_of_component (in_component called.context p.around v) p.autoescape
       (suc p.depth) file) nothing_set body
-  pub code : called.code.now ≡ listing_of file body
+  pub code : called.body.chunk.now ≡ listing_of file body
   pub depth : called.depth ≡ suc p.depth
 
 -- the component is called, or the request is refused, unless memory was refused

@@ -17,4 +17,5 @@ pub mod Bodies
 pub mod Includes
 pub mod Apart
 pub mod Components
+pub mod Open
 pub mod Prelude

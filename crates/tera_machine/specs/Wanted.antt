@@ -10,6 +10,10 @@ abbrev pub is_wanted : Option Name → Name → Bool
 is_wanted None name = false
 is_wanted (Some wanted) name = bytes_eq wanted name
 
+-- the name of the block that is wanted, while one that ends may be it
+abbrev pub noted_name : Wanted → Option Name
+noted_name w = if w.notes then w.name else None
+
 -- the text of the last of these blocks that is wanted, or the one from before
 abbrev pub last_of : Option Name → Option Text → List (Name × Text) → Option Text
 last_of wanted before [] = before
@@ -27,4 +31,5 @@ text_kept wanted = option_map string_bytes wanted.last
 -- these blocks ended, and the text of the last one that is wanted is there
 pub record Noted (before : Wanted) (since : List (Name × Text)) (after : Wanted) : Type 0 where
   pub name : after.name ≡ before.name
-  pub last : text_kept after ≡ last_of before.name (text_kept before) since
+  pub notes : after.notes ≡ before.notes
+  pub last : text_kept after ≡ last_of (noted_name before) (text_kept before) since

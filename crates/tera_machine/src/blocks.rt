@@ -1,5 +1,5 @@
 // What is open around the body that runs.
-ghost use Rattle.std.specs.Prelude.{◌≡◌, [], ◌∷◌, OnOk, IfOk, IfErr};
+ghost use Rattle.std.specs.Prelude.{◌≡◌, [], false, OnOk, IfOk, IfErr};
 ghost use Rattle.tera_errors.specs.Prelude.{Lacks};
 ghost use Rattle.tera_syntax_tree.specs.Prelude.{is_among};
 ghost use Rattle.tera_registry.specs.Prelude.{definers_of};
@@ -10,9 +10,17 @@ use crate::asked::Asked;
 use crate::includes::Included;
 use crate::wanted::Wanted;
 use std::alloc::Global;
+use std::mem::replace;
 use tera_registry::{Definer, Definers};
 use tera_state::Stack;
 use tera_values::{Name, TeraResult};
+
+/// What is open around a template that is included, and around a component.
+#[derive(Drop)]
+pub struct Around {
+    pub names: Stack<Name>,
+    pub notes: bool,
+}
 
 /// The names of the blocks that are open, the innermost on top, those who define the innermost above the body that runs,
 /// the block that is wanted, and the templates that are included and open.
@@ -36,22 +44,37 @@ impl<'t> OpenBlocks<'t> {
             names: Stack::new(alloc),
             above: Definers::none(),
             wanted,
-            included: Included::Nothing,
+            included: Included::new(alloc),
         }
     }
 
-    /// The template of this name is included, in these that are; it has no block open. Takes no memory.
-    pub fn in_template(alloc: Global, name: &'t str, outer: &'t Included<'t>) -> OpenBlocks<'t>
-        ensures names { result.names ≡ [] }
-        ensures above { definers_of result.above ≡ [] }
-        ensures included { names_in result.included ≡ name.now ∷ names_in outer.now }
+    /// What runs now has no block open, and of those that end in it none is wanted. Hands out what was open.
+    pub fn enter_apart(&mut self, alloc: Global) -> Around
+        ensures names { self.new.names ≡ [] }
+        ensures above { definers_of self.new.above ≡ [] }
+        ensures wanted { self.new.wanted ≡ record self.old.wanted { notes = false } }
+        ensures included { self.new.included ≡ self.old.included }
+        ensures before { (result.names ≡ self.old.names)
+            × (result.notes ≡ self.old.wanted.notes) }
     {
-        OpenBlocks {
-            names: Stack::new(alloc),
-            above: Definers::none(),
-            wanted: Wanted::none(),
-            included: Included::Template(name, outer),
+        self.above = Definers::none();
+        Around {
+            names: replace(&mut self.names, Stack::new(alloc)),
+            notes: replace(&mut self.wanted.notes, false),
         }
+    }
+
+    /// That is over, and what was open is again.
+    pub fn leave_apart(&mut self, around: Around, above: Definers<'t>)
+        ensures names { self.new.names ≡ around.names }
+        ensures above { self.new.above ≡ above.entry }
+        ensures wanted { self.new.wanted ≡ record self.old.wanted { notes = around.notes } }
+        ensures included { self.new.included ≡ self.old.included }
+    {
+        let Around { names, notes } = around;
+        self.names = names;
+        self.above = above;
+        self.wanted.notes = notes;
     }
 
     /// Whether the block of this name is open.

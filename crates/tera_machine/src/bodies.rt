@@ -12,9 +12,10 @@ ghost use Rattle.tera_machine.specs.Wanted.{ended_by, Noted};
 ghost use Rattle.tera_machine.specs.Bodies.{FindsBody, Enters, Leaves, closed_in};
 
 use crate::asked::Asked;
-use crate::blocks::OpenBlocks;
+use crate::blocks::{Around, OpenBlocks};
 use crate::configuration::Configuration;
 use crate::ended::Ended;
+use crate::includes::Included;
 use crate::machine::{Limit, VirtualMachine};
 use crate::place::LoopPlace;
 use crate::wanted::Wanted;
@@ -23,9 +24,9 @@ use tera_code::Chunk;
 use tera_errors::Error;
 use tera_objects::Objects;
 use tera_operators::Operand;
-use tera_registry::{Definer, Definers};
+use tera_registry::{Definer, Definers, FoundTemplate, Home};
 use tera_state::Stack;
-use tera_values::{Name, TeraResult};
+use tera_values::{Name, Span, TeraResult};
 
 /// What a body that takes another has to itself: its open loops, and the blocks that ended in it so far.
 #[derive(Drop)]
@@ -40,6 +41,52 @@ pub struct Inside<'t> {
     pub definer: Definer<'t>,
     pub above: Definers<'t>,
     pub outer: Outer,
+}
+
+/// The code of a body, and where its references are linked.
+#[derive(Clone, Copy)]
+pub struct Body<'t> {
+    pub chunk: &'t Chunk,
+    pub home: Home,
+}
+
+/// What is to be made of a body's text, and what is to be again behind it.
+#[derive(Drop)]
+pub enum Back<'t> {
+    /// It is what was asked for.
+    Taken(Asked<'t>),
+    /// It is written. This is open again, and this template is rendered.
+    Included {
+        around: Around,
+        template: Option<FoundTemplate<'t>>,
+    },
+    /// It is an operand, which may be safe. This is open again, and this template is rendered.
+    Called {
+        around: Around,
+        included: Included<'t>,
+        template: Option<FoundTemplate<'t>>,
+        depth: usize,
+        safe: bool,
+        span: Span,
+    },
+}
+
+/// Where a body goes on.
+#[derive(Clone, Copy)]
+pub struct Behind<'t> {
+    pub body: Body<'t>,
+    pub at: usize,
+}
+
+/// A body that waits for one that it takes: where it goes on, those who define its block above, its loops and the blocks that
+/// ended in it, and the rest of what is to be again then.
+#[derive(Drop)]
+pub struct Waiting<'t> {
+    pub body: Body<'t>,
+    pub at: usize,
+    pub above: Definers<'t>,
+    pub outer: Outer,
+    pub back: Back<'t>,
 }
 
 impl<'c> Configuration<'c> {
@@ -62,7 +109,12 @@ impl<'c> Configuration<'c> {
     }
 
     // The body ends: its text joins the one around it, or becomes a safe operand. That of a block is kept where it is wanted.
-    fn end_body(&mut self, asked: Asked<'_>, outer: Outer, wanted: &mut Wanted) -> TeraResult<()>
+    pub(crate) fn end_body(
+        &mut self,
+        asked: Asked<'_>,
+        outer: Outer,
+        wanted: &mut Wanted,
+    ) -> TeraResult<()>
         requires { (config_of self.old).captures ≢ [] }
         ensures config { OnOk result (config_of self.new ≡ closed_in (config_of self.old).captures
             (request_of asked.entry) (use_of asked.entry) outer.ended.all
@@ -178,28 +230,5 @@ impl<'t, O: Objects> VirtualMachine<'t, O> {
             above,
             outer,
         })
-    }
-
-    /// Leaves the body that was asked for.
-    pub(crate) fn leave(
-        &self,
-        asked: Asked<'_>,
-        inside: Inside<'t>,
-        blocks: &mut OpenBlocks<'t>,
-        configuration: &mut Configuration<'_>,
-    ) -> TeraResult<()>
-        requires { (config_of configuration.old).captures ≢ [] }
-        ensures ok { OnOk result (Leaves asked.entry inside.entry blocks.old configuration.old
-            blocks.new configuration.new) }
-        ensures lacks { IfErr result Lacks }
-    {
-        let Inside {
-            definer: _,
-            above,
-            outer,
-        } = inside;
-        configuration.end_body(asked, outer, &mut blocks.wanted)?;
-        blocks.leave(asked, above);
-        Ok(())
     }
 }

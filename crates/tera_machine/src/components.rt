@@ -12,10 +12,9 @@ ghost use Rattle.tera_machine.specs.Components.{found_of, first_kept, Calls};
 ghost use Rattle.tera_machine.specs.Subject.{IsLinked, kept_beside, place_at};
 
 use crate::asked::AskedComponent;
-use crate::bodies::Outer;
+use crate::bodies::{Body, Outer};
 use crate::configuration::Configuration;
 use crate::machine::{Limit, VirtualMachine};
-use tera_code::Chunk;
 use tera_errors::Error;
 use tera_objects::Objects;
 use tera_operators::{Operand, fault_at};
@@ -34,8 +33,7 @@ pub struct Beside<'t> {
 /// A component that is called: its code and where that is linked, the context in which it runs, and how many components are open then.
 #[derive(Drop)]
 pub struct Called<'t> {
-    pub code: &'t Chunk,
-    pub home: Home,
+    pub body: Body<'t>,
     pub context: Kwargs,
     pub depth: usize,
 }
@@ -124,14 +122,13 @@ impl<'t, O: Objects> VirtualMachine<'t, O> {
     #[tactic(auto, using(crate::proofs::Calling::nobody_called, crate::proofs::Calling::unfit, crate::proofs::Calling::too_deep, crate::proofs::Calling::is_called))]
     pub(crate) fn called<M: Limit>(
         &self,
-        chunk: &Chunk,
-        home: Home,
+        here: Body<'t>,
         asked: AskedComponent<'_>,
         configuration: &Configuration<'_>,
     ) -> TeraResult<Called<'t>>
         requires { IsLinked self.now M.world }
         ensures { (blocks : OpenBlocks) → Calls M.world
-            (place_at self.now chunk.now.file blocks configuration.now)
+            (place_at self.now here.entry.chunk.now.file blocks configuration.now)
             (component_request asked.entry) (variables_of configuration.now.scopes) result }
     {
         let AskedComponent {
@@ -142,22 +139,24 @@ impl<'t, O: Objects> VirtualMachine<'t, O> {
             safe: _,
             span,
         } = asked;
-        let Some(component) = self.named::<M>(name, home, number) else {
+        let Some(component) = self.named::<M>(name, here.home, number) else {
             let words = "no component has this name";
-            return Err(Error::rendering(self.alloc, words, chunk.file(), span));
+            return Err(Error::rendering(self.alloc, words, here.chunk.file(), span));
         };
         let scopes = &configuration.scopes;
         let context = match component.definition.bind(self.alloc, &given, scopes, body) {
             Ok(context) => context,
-            Err(error) => return Err(fault_at(self.alloc, chunk.file(), &error, span)),
+            Err(error) => return Err(fault_at(self.alloc, here.chunk.file(), &error, span)),
         };
         if self.depth >= MAX_DEPTH {
             let words = "components call one another too deep";
             return Err(Error::message(self.alloc, words));
         }
         Ok(Called {
-            code: component.chunk,
-            home: component.home,
+            body: Body {
+                chunk: component.chunk,
+                home: component.home,
+            },
             context,
             depth: self.depth + 1,
         })

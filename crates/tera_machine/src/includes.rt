@@ -13,31 +13,44 @@ ghost use Rattle.tera_machine.specs.Subject.{IsLinked, place_at};
 
 use crate::asked::AskedTemplate;
 use crate::blocks::OpenBlocks;
-use crate::bodies::Outer;
+use crate::bodies::{Body, Outer};
 use crate::configuration::Configuration;
 use crate::machine::{Limit, VirtualMachine};
-use tera_code::Chunk;
+use std::alloc::Global;
 use tera_errors::Error;
 use tera_objects::Objects;
 use tera_registry::{FoundTemplate, Home, Templates};
+use tera_state::Stack;
 use tera_values::{Name, TeraResult};
 
-/// The templates that are included and open, the innermost first: each lies where its body is run.
-#[derive(Clone, Copy)]
-pub enum Included<'i> {
-    Nothing,
-    Template(&'i str, &'i Included<'i>),
+/// The names of the templates that are included and open, the innermost on top.
+#[derive(Drop)]
+pub struct Included<'t> {
+    pub names: Stack<&'t str>,
 }
 
-impl<'i> Included<'i> {
+impl<'t> Included<'t> {
+    /// None is; takes no memory.
+    pub fn new(alloc: Global) -> Included<'t>
+        ensures { names_in result ≡ [] }
+    {
+        Included {
+            names: Stack::new(alloc),
+        }
+    }
+
     /// Whether the template of this name is among them.
     pub fn has(&self, name: &str) -> bool
         ensures { result ≡ is_among name.now (names_in self.now) }
     {
-        match self {
-            Included::Nothing => false,
-            Included::Template(other, outer) => name == *other || outer.has(name),
+        let mut height = self.names.len();
+        while height > 0 {
+            height -= 1;
+            if name == *self.names.at_height(height) {
+                return true;
+            }
         }
+        false
     }
 }
 
@@ -82,24 +95,23 @@ impl<'t, O: Objects> VirtualMachine<'t, O> {
     /// The template to include, or the fault of the request.
     pub(crate) fn included<M: Limit>(
         &self,
-        chunk: &Chunk,
-        home: Home,
+        here: Body<'t>,
         asked: AskedTemplate<'_>,
         blocks: &OpenBlocks<'t>,
     ) -> TeraResult<FoundTemplate<'t>>
         requires { IsLinked self.now M.world }
         ensures { (c : Configuration) → FindsTemplate M.world
-            (place_at self.now chunk.now.file blocks.now c) (include_request asked.entry)
+            (place_at self.now here.entry.chunk.now.file blocks.now c) (include_request asked.entry)
             (config_of c).run.vars result }
     {
         let AskedTemplate { name, number, span } = asked;
-        let Some(found) = self.found::<M>(name, home, number) else {
+        let Some(found) = self.found::<M>(name, here.home, number) else {
             let words = "no template has this name";
-            return Err(Error::rendering(self.alloc, words, chunk.file(), span));
+            return Err(Error::rendering(self.alloc, words, here.chunk.file(), span));
         };
         if blocks.included.has(found.name) {
             let words = "a template is included inside itself";
-            return Err(Error::rendering(self.alloc, words, chunk.file(), span));
+            return Err(Error::rendering(self.alloc, words, here.chunk.file(), span));
         }
         Ok(found)
     }

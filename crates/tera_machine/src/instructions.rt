@@ -355,7 +355,8 @@ impl<'c> Configuration<'c> {
     }
 
     // The arguments are read and dropped.
-    fn take_above<'f>(&mut self, arguments: usize, span: Span) -> Going<'f>
+    #[inline(never)]
+    pub(crate) fn take_above<'f>(&mut self, arguments: usize, span: Span) -> Going<'f>
         requires { IsReady (above_taken arguments span) self.old }
         ensures { Does (above_taken arguments span) self.old result self.new }
     {
@@ -381,7 +382,8 @@ impl<'c> Configuration<'c> {
         Ok(Some(operand.into_value().shared(alloc)?))
     }
 
-    fn take_component<'f, O: Objects>(
+    #[inline(never)]
+    pub(crate) fn take_component<'f, O: Objects>(
         &mut self,
         machine: &VirtualMachine<'_, O>,
         file: &str,

@@ -1,5 +1,5 @@
 // A run of a body, and of those that it takes.
-ghost use Rattle.std.specs.Prelude.{◌≡◌, ℕ, ◌+◌, ◌-◌, ◌*◌, ◌≤◌, [], None, Some, IsTrue, OnOk, string_bytes, map};
+ghost use Rattle.std.specs.Prelude.{◌≡◌, ◌≢◌, IfErr, IfOk, ℕ, ◌+◌, ◌-◌, ◌*◌, ◌≤◌, [], None, Some, IsTrue, OnOk, string_bytes, map};
 ghost use Rattle.tera_meaning.specs.Prelude.{visits_of, new_registry, alone, block_of, World};
 ghost use Rattle.tera_errors.specs.Prelude.{Gives};
 ghost use Rattle.tera_state.specs.Prelude.{around_of};
@@ -8,21 +8,26 @@ ghost use Rattle.tera_registry.specs.Prelude.{kept_of};
 ghost use Rattle.tera_machine.specs.Config.{config_of};
 ghost use Rattle.tera_machine.specs.Exec.{EndsWithin, Ran};
 ghost use Rattle.tera_machine.specs.Flow.{Written, request_of, use_of, include_request, component_request, component_use};
-ghost use Rattle.tera_machine.specs.Advance.{BodyWithin};
-ghost use Rattle.tera_machine.specs.Bodies.{Stays, BodyRan};
+ghost use Rattle.tera_machine.specs.Bodies.{Stays};
+ghost use Rattle.tera_machine.specs.Open.{TakesBody, HasOuter, Resumes};
+ghost use Rattle.tera_errors.specs.Prelude.{Lacks};
 ghost use Rattle.tera_machine.specs.Subject.{Subject, IsLinked, kept_beside, meant_from, engine_of, place_at, place_of, Means};
 
 use crate::asked::{Asked, AskedComponent, AskedTemplate};
 use crate::blocks::OpenBlocks;
+use crate::bodies::{Back, Behind, Body, Inside, Waiting};
 use crate::components::{Beside, Called};
 use crate::configuration::Configuration;
+use crate::includes::Included;
 use crate::wanted::Wanted;
 use std::alloc::Global;
 use std::marker::Brand;
+use std::mem::replace;
 use std::sync::ledger::Ledger;
 use tera_code::{Chunk, Steps};
 use tera_objects::Objects;
 use tera_registry::{Component, FoundTemplate, Home, Templates};
+use tera_state::Stack;
 use tera_values::{Name, TeraResult};
 
 /// Where the machine goes on.
@@ -171,52 +176,10 @@ impl<'t, O: Objects> VirtualMachine<'t, O> {
         VirtualMachine { home, ..self }
     }
 
-    // The same for a template that is included.
-    fn in_template(&self, template: FoundTemplate<'t>) -> VirtualMachine<'t, O>
-        ensures escapes { result.autoescape ≡ self.now.autoescape }
-        ensures templates { result.templates.now ≡ template.entry.templates.now }
-        ensures objects { result.objects.now ≡ self.now.objects.now }
-        ensures template { result.template ≡ Some template.entry }
-        ensures beside { result.beside ≡ self.now.beside }
-        ensures depth { result.depth ≡ self.now.depth }
-    {
-        VirtualMachine {
-            alloc: self.alloc,
-            autoescape: self.autoescape,
-            templates: template.templates,
-            objects: self.objects,
-            template: Some(template),
-            beside: self.beside,
-            depth: self.depth,
-            home: template.body_home(),
-        }
-    }
-
-    // The same for a component, where so many are open with it. It takes no blocks.
-    fn in_component(&self, depth: usize, home: Home) -> VirtualMachine<'t, O>
-        ensures escapes { result.autoescape ≡ self.now.autoescape }
-        ensures templates { result.templates.now ≡ self.now.templates.now }
-        ensures objects { result.objects.now ≡ self.now.objects.now }
-        ensures alone { result.template ≡ None }
-        ensures beside { result.beside ≡ self.now.beside }
-        ensures depth { result.depth ≡ depth }
-    {
-        VirtualMachine {
-            alloc: self.alloc,
-            autoescape: self.autoescape,
-            templates: self.templates,
-            objects: self.objects,
-            template: None,
-            beside: self.beside,
-            depth,
-            home,
-        }
-    }
-
     /// Runs the code of a body to its end, within eight instructions a visit of the body's meaning.
     pub fn run<L: Ledger>(
         &self,
-        chunk: &Chunk,
+        chunk: &'t Chunk,
         configuration: &mut Configuration<'_>,
         steps: &mut Steps<L>,
     ) -> TeraResult<()>
@@ -233,13 +196,13 @@ impl<'t, O: Objects> VirtualMachine<'t, O> {
             ≡ around_of configuration.old.scopes) }
     {
         let mut blocks = OpenBlocks::new(self.alloc, Wanted::none());
-        self.run_counted::<Brand, L>(chunk, self.home, &mut blocks, configuration, steps)
+        self.run_counted::<Brand, L>(chunk, &mut blocks, configuration, steps)
     }
 
     /// The same, where no block ended before: the text of the block of this name as it ended last, or the empty text.
     pub fn run_for_block<L: Ledger>(
         &self,
-        chunk: &Chunk,
+        chunk: &'t Chunk,
         block: &Name,
         configuration: &mut Configuration<'_>,
         steps: &mut Steps<L>,
@@ -257,7 +220,7 @@ impl<'t, O: Objects> VirtualMachine<'t, O> {
     {
         let wanted = Wanted::block(block)?;
         let mut blocks = OpenBlocks::new(self.alloc, wanted);
-        match self.run_counted::<Brand, L>(chunk, self.home, &mut blocks, configuration, steps) {
+        match self.run_counted::<Brand, L>(chunk, &mut blocks, configuration, steps) {
             Ok(()) => {}
             Err(error) => return Err(error),
         }
@@ -271,12 +234,11 @@ impl<'t, O: Objects> VirtualMachine<'t, O> {
         Ok(wanted.into_text(self.alloc))
     }
 
-    // The same, in the machine's own terms, of code that is linked at home, and where blocks may be open.
-    #[cycle(run)]
+    // The same, in the machine's own terms, and where blocks may be open. The bodies that wait for those that they take lie in a
+    // list, so the host's stack does not grow.
     fn run_counted<M: Limit, L: Ledger>(
         &self,
-        chunk: &Chunk,
-        home: Home,
+        first: &'t Chunk,
         blocks: &mut OpenBlocks<'t>,
         configuration: &mut Configuration<'_>,
         steps: &mut Steps<L>,
@@ -284,20 +246,46 @@ impl<'t, O: Objects> VirtualMachine<'t, O> {
         requires engine { engine_of O.engine self.now ≡ M.world.registry.engine }
         requires linked { IsLinked self.now M.world }
         requires within { EndsWithin M.world
-            (place_at self.now chunk.now.file blocks.old configuration.old) chunk.now.code 0
+            (place_at self.now first.now.file blocks.old configuration.old) first.now.code 0
             (config_of configuration.old) (M.most - steps.old) }
         ensures counted { steps.old ≤ steps.new }
         ensures bounded { steps.old ≤ M.most → steps.new ≤ M.most }
-        ensures ends { Ran M.world (place_at self.now chunk.now.file blocks.old configuration.old)
-            chunk.now.code (config_of configuration.old) result (config_of configuration.new)
+        ensures ends { Ran M.world (place_at self.now first.now.file blocks.old configuration.old)
+            first.now.code (config_of configuration.old) result (config_of configuration.new)
             (steps.new - steps.old) }
         ensures stays { OnOk result (Stays blocks.old configuration.old blocks.new
             configuration.new) }
     {
+        let mut open: Stack<Waiting<'t>> = Stack::new(self.alloc);
+        let mut machine = *self;
+        let mut body = Body {
+            chunk: first,
+            home: self.home,
+        };
         let mut at = 0;
-        while let Some(instruction) = chunk.get(at, steps) {
+        'bodies: loop {
+            let chunk = body.chunk;
+            let Some(instruction) = chunk.get(at, steps) else {
+                if open.len() == 0 {
+                    return Ok(());
+                }
+                match machine.leave(&mut open, blocks, configuration) {
+                    Ok(behind) => {
+                        body = behind.body;
+                        at = behind.at;
+                    }
+                    Err(error) => return Err(error),
+                }
+                continue;
+            };
             let mut last = at;
-            let flow = match configuration.perform(self, chunk, &mut last, &instruction, steps) {
+            let flow = match configuration.perform(
+                &machine,
+                chunk,
+                &mut last,
+                &instruction,
+                steps,
+            ) {
                 Ok(flow) => flow,
                 Err(error) => return Err(error),
             };
@@ -306,160 +294,224 @@ impl<'t, O: Objects> VirtualMachine<'t, O> {
                 Flow::On => at = next,
                 Flow::Skip(count) => at = next + count,
                 Flow::To(place, count) => at = place + count,
-                Flow::Out => return Ok(()),
+                Flow::Out => at = chunk.len(),
                 Flow::Ask(asked) => {
-                    match self.take::<M, L>(chunk, asked, blocks, configuration, steps) {
-                        Ok(()) => at = next,
+                    match machine.take::<M>(body, next, asked, blocks, configuration, &mut open) {
+                        Ok(inner) => body = inner,
                         Err(error) => return Err(error),
                     }
+                    at = 0;
                 }
                 Flow::Include(asked) => {
-                    match self.include::<M, L>(chunk, home, asked, blocks, configuration, steps) {
-                        Ok(()) => at = next,
+                    match machine.include::<M>(
+                        body,
+                        next,
+                        asked,
+                        blocks,
+                        configuration,
+                        &mut open,
+                    ) {
+                        Ok(inner) => body = inner,
                         Err(error) => return Err(error),
                     }
+                    at = 0;
                 }
                 Flow::Component(asked) => {
-                    let asked = Box::into_inner(asked);
-                    match self.component::<M, L>(chunk, home, asked, blocks, configuration, steps) {
-                        Ok(()) => at = next,
+                    match machine.component::<M>(
+                        body,
+                        next,
+                        asked,
+                        blocks,
+                        configuration,
+                        &mut open,
+                    ) {
+                        Ok(inner) => body = inner,
                         Err(error) => return Err(error),
                     }
+                    at = 0;
                 }
             }
         }
-        Ok(())
     }
 
-    // The body that is asked for, from its beginning to its end.
-    #[cycle(run)]
+    // The body that is asked for begins, and the one that asks waits, to go on at that position.
     #[inline(never)]
-    fn take<M: Limit, L: Ledger>(
+    fn take<M: Limit>(
         &self,
-        chunk: &Chunk,
-        asked: Asked<'_>,
+        here: Body<'t>,
+        at: usize,
+        asked: Asked<'t>,
         blocks: &mut OpenBlocks<'t>,
         configuration: &mut Configuration<'_>,
-        steps: &mut Steps<L>,
-    ) -> TeraResult<()>
-        requires engine { engine_of O.engine self.now ≡ M.world.registry.engine }
+        open: &mut Stack<Waiting<'t>>,
+    ) -> TeraResult<Body<'t>>
         requires linked { IsLinked self.now M.world }
-        requires within { BodyWithin M.world
-            (place_at self.now chunk.now.file blocks.old configuration.old) (request_of asked)
-            (use_of asked) (config_of configuration.old) (M.most - steps.old) }
-        ensures counted { steps.old ≤ steps.new }
-        ensures bounded { steps.old ≤ M.most → steps.new ≤ M.most }
-        ensures ends { BodyRan M.world (place_at self.now chunk.now.file blocks.old
-            configuration.old) (request_of asked.entry) (use_of asked.entry)
-            (config_of configuration.old) result (config_of configuration.new)
-            (steps.new - steps.old) }
-        ensures stays { OnOk result (Stays blocks.old configuration.old blocks.new
-            configuration.new) }
+        ensures { TakesBody M.world self.now here.entry.chunk.now at (request_of asked.entry)
+            (use_of asked.entry) blocks.old configuration.old open.old self.now result blocks.new
+            configuration.new open.new }
     {
-        let inside = match self.enter::<M>(chunk, asked, blocks, configuration) {
+        let inside = match self.enter::<M>(here.chunk, asked, blocks, configuration) {
             Ok(inside) => inside,
             Err(error) => return Err(error),
         };
-        let body = inside.definer;
-        match self.run_counted::<M, L>(body.chunk, body.home, blocks, configuration, steps) {
-            Ok(()) => {}
-            Err(error) => return Err(error),
-        }
-        self.leave(asked, inside, blocks, configuration)
+        let Inside {
+            definer,
+            above,
+            outer,
+        } = inside;
+        open.push(Waiting {
+            body: here,
+            at,
+            above,
+            outer,
+            back: Back::Taken(asked),
+        })?;
+        Ok(Body {
+            chunk: definer.chunk,
+            home: definer.home,
+        })
     }
 
-    // The template that is included, from the beginning of its own body to its end.
-    #[cycle(run)]
+    // The same of the template that is included.
     #[inline(never)]
-    fn include<M: Limit, L: Ledger>(
-        &self,
-        chunk: &Chunk,
-        home: Home,
-        asked: AskedTemplate<'_>,
-        blocks: &OpenBlocks<'t>,
+    fn include<M: Limit>(
+        &mut self,
+        here: Body<'t>,
+        at: usize,
+        asked: AskedTemplate<'t>,
+        blocks: &mut OpenBlocks<'t>,
         configuration: &mut Configuration<'_>,
-        steps: &mut Steps<L>,
-    ) -> TeraResult<()>
-        requires engine { engine_of O.engine self.now ≡ M.world.registry.engine }
-        requires linked { IsLinked self.now M.world }
-        requires within { BodyWithin M.world
-            (place_at self.now chunk.now.file blocks.now configuration.old)
-            (include_request asked) Written (config_of configuration.old) (M.most - steps.old) }
-        ensures counted { steps.old ≤ steps.new }
-        ensures bounded { steps.old ≤ M.most → steps.new ≤ M.most }
-        ensures ends { BodyRan M.world (place_at self.now chunk.now.file blocks.now
-            configuration.old) (include_request asked.entry) Written
-            (config_of configuration.old) result (config_of configuration.new)
-            (steps.new - steps.old) }
-        ensures stays { OnOk result (Stays blocks.now configuration.old blocks.now
-            configuration.new) }
+        open: &mut Stack<Waiting<'t>>,
+    ) -> TeraResult<Body<'t>>
+        requires linked { IsLinked self.old M.world }
+        ensures { TakesBody M.world self.old here.entry.chunk.now at (include_request asked.entry)
+            Written blocks.old configuration.old open.old self.new result blocks.new
+            configuration.new open.new }
     {
-        let found = match self.included::<M>(chunk, home, asked, blocks) {
+        let found = match self.included::<M>(here, asked, blocks) {
             Ok(found) => found,
             Err(error) => return Err(error),
         };
-        let machine = self.in_template(found);
-        let mut inside = OpenBlocks::in_template(self.alloc, found.name, &blocks.included);
         let outer = configuration.begin_include()?;
-        match machine.run_counted::<M, L>(
-            found.body,
-            machine.home,
-            &mut inside,
-            configuration,
-            steps,
-        ) {
-            Ok(()) => {}
-            Err(error) => return Err(error),
-        }
-        configuration.end_include(outer)
+        blocks.included.names.push(found.name)?;
+        let above = blocks.above;
+        let around = blocks.enter_apart(self.alloc);
+        open.push(Waiting {
+            body: here,
+            at,
+            above,
+            outer,
+            back: Back::Included {
+                around,
+                template: self.template,
+            },
+        })?;
+        self.template = Some(found);
+        Ok(Body {
+            chunk: found.body,
+            home: found.body_home(),
+        })
     }
 
-    // The component that is called, from the beginning of its body to its end.
-    #[cycle(run)]
+    // The same of the component that is called.
     #[inline(never)]
-    fn component<M: Limit, L: Ledger>(
-        &self,
-        chunk: &Chunk,
-        home: Home,
-        asked: AskedComponent<'_>,
-        blocks: &OpenBlocks<'t>,
+    fn component<M: Limit>(
+        &mut self,
+        here: Body<'t>,
+        at: usize,
+        asked: Box<AskedComponent<'t>>,
+        blocks: &mut OpenBlocks<'t>,
         configuration: &mut Configuration<'_>,
-        steps: &mut Steps<L>,
-    ) -> TeraResult<()>
-        requires engine { engine_of O.engine self.now ≡ M.world.registry.engine }
-        requires linked { IsLinked self.now M.world }
-        requires within { BodyWithin M.world
-            (place_at self.now chunk.now.file blocks.now configuration.old)
-            (component_request asked) (component_use asked) (config_of configuration.old)
-            (M.most - steps.old) }
-        ensures counted { steps.old ≤ steps.new }
-        ensures bounded { steps.old ≤ M.most → steps.new ≤ M.most }
-        ensures ends { BodyRan M.world (place_at self.now chunk.now.file blocks.now
-            configuration.old) (component_request asked.entry) (component_use asked.entry)
-            (config_of configuration.old) result (config_of configuration.new)
-            (steps.new - steps.old) }
-        ensures stays { OnOk result (Stays blocks.now configuration.old blocks.now
-            configuration.new) }
+        open: &mut Stack<Waiting<'t>>,
+    ) -> TeraResult<Body<'t>>
+        requires linked { IsLinked self.old M.world }
+        ensures { TakesBody M.world self.old here.entry.chunk.now at
+            (component_request asked.entry.value) (component_use asked.entry.value) blocks.old
+            configuration.old open.old self.new result blocks.new configuration.new open.new }
     {
+        let asked = Box::into_inner(asked);
         let safe = asked.safe;
         let span = asked.span;
-        let called = match self.called::<M>(chunk, home, asked, configuration) {
+        let called = match self.called::<M>(here, asked, configuration) {
             Ok(called) => called,
             Err(error) => return Err(error),
         };
         let Called {
-            code,
-            home,
+            body,
             context,
             depth,
         } = called;
-        let machine = self.in_component(depth, home);
-        let mut inside = OpenBlocks::new(self.alloc, Wanted::none());
         let outer = configuration.begin_component(context)?;
-        match machine.run_counted::<M, L>(code, machine.home, &mut inside, configuration, steps) {
-            Ok(()) => {}
-            Err(error) => return Err(error),
+        let above = blocks.above;
+        let around = blocks.enter_apart(self.alloc);
+        let included = replace(&mut blocks.included, Included::new(self.alloc));
+        open.push(Waiting {
+            body: here,
+            at,
+            above,
+            outer,
+            back: Back::Called {
+                around,
+                included,
+                template: self.template,
+                depth: self.depth,
+                safe,
+                span,
+            },
+        })?;
+        self.template = None;
+        self.depth = depth;
+        Ok(body)
+    }
+
+    // A body ends, and the one that waited for it runs again.
+    #[inline(never)]
+    fn leave(
+        &mut self,
+        open: &mut Stack<Waiting<'t>>,
+        blocks: &mut OpenBlocks<'t>,
+        configuration: &mut Configuration<'_>,
+    ) -> TeraResult<Behind<'t>>
+        requires waits { open.old ≢ [] }
+        requires text { (config_of configuration.old).captures ≢ [] }
+        requires state { HasOuter open.old configuration.old }
+        ensures ok { IfOk result (λ behind. Resumes self.old open.old blocks.old configuration.old
+            behind self.new open.new blocks.new configuration.new) }
+        ensures lacks { IfErr result Lacks }
+    {
+        let Waiting {
+            body,
+            at,
+            above,
+            outer,
+            back,
+        } = open.take();
+        match back {
+            Back::Taken(asked) => {
+                configuration.end_body(asked, outer, &mut blocks.wanted)?;
+                blocks.leave(asked, above);
+            }
+            Back::Included { around, template } => {
+                self.template = template;
+                blocks.leave_apart(around, above);
+                drop(blocks.included.names.pop());
+                configuration.end_include(outer)?;
+            }
+            Back::Called {
+                around,
+                included,
+                template,
+                depth,
+                safe,
+                span,
+            } => {
+                self.template = template;
+                self.depth = depth;
+                blocks.leave_apart(around, above);
+                drop(replace(&mut blocks.included, included));
+                configuration.end_component(safe, span, outer)?;
+            }
         }
-        configuration.end_component(safe, span, outer)
+        Ok(Behind { body, at })
     }
 }

@@ -1,7 +1,7 @@
 // The block whose text is wanted.
-ghost use Rattle.std.specs.Prelude.{◌≡◌, [], ◌∷◌, None, Some, OnOk, IfOk, IfErr, string_bytes, unwrap_or};
+ghost use Rattle.std.specs.Prelude.{◌≡◌, [], ◌∷◌, None, Some, IsTrue, OnOk, IfOk, IfErr, string_bytes, unwrap_or};
 ghost use Rattle.tera_errors.specs.Prelude.{Lacks};
-ghost use Rattle.tera_machine.specs.Wanted.{is_wanted, Noted, text_kept};
+ghost use Rattle.tera_machine.specs.Wanted.{is_wanted, noted_name, Noted, text_kept};
 
 use std::alloc::Global;
 use tera_values::{Name, TeraResult};
@@ -10,12 +10,18 @@ use tera_values::{Name, TeraResult};
 pub struct Wanted {
     pub name: Option<Name>,
     pub last: Option<String>,
+    /// Whether a block that ends now may be the one: in a template that is included, and in a component, none is.
+    pub notes: bool,
 }
 
 // By hand, so that what goes out of scope is one call.
 impl Drop for Wanted {
     fn drop(self) {
-        let Wanted { name, last } = self;
+        let Wanted {
+            name,
+            last,
+            notes: _,
+        } = self;
         drop(name);
         drop(last);
     }
@@ -25,30 +31,36 @@ impl Wanted {
     /// No block is wanted; takes no memory.
     pub fn none() -> Wanted
         ensures name { result.name ≡ None }
+        ensures notes { IsTrue result.notes }
         ensures last { text_kept result ≡ None }
     {
         Wanted {
             name: None,
             last: None,
+            notes: true,
         }
     }
 
     /// The block of this name is wanted.
     pub fn block(name: &Name) -> TeraResult<Wanted>
-        ensures name { IfOk result (λ wanted. wanted.name ≡ Some name.now) }
+        ensures name { IfOk result (λ wanted. noted_name wanted ≡ Some name.now) }
         ensures last { IfOk result (λ wanted. text_kept wanted ≡ None) }
         ensures lacks { IfErr result Lacks }
     {
         Ok(Wanted {
             name: Some(name.share()?),
             last: None,
+            notes: true,
         })
     }
 
     // Whether this block is wanted.
     fn wants(&self, name: &Name) -> bool
-        ensures { result ≡ is_wanted self.now.name name.now }
+        ensures { result ≡ is_wanted (noted_name self.now) name.now }
     {
+        if !self.notes {
+            return false;
+        }
         match &self.name {
             Some(wanted) => wanted.sought().is(name),
             None => false,
@@ -70,7 +82,11 @@ impl Wanted {
     pub fn into_text(self, alloc: Global) -> String
         ensures { string_bytes result ≡ unwrap_or (text_kept self) [] }
     {
-        let Wanted { name, last } = self;
+        let Wanted {
+            name,
+            last,
+            notes: _,
+        } = self;
         drop(name);
         match last {
             Some(text) => text,

@@ -7,6 +7,6 @@ use Rattle.tera_machine.proofs.machine.VirtualMachine.called.Goals as goal
 pub returns-then-self-ge-MAX_DEPTH : goal.returns-then-self-ge-MAX_DEPTH
 returns-then-self-ge-MAX_DEPTH g c = λ blocks.
     let asked = c.args.asked in
-    let place = place_at c.args.self.now c.args.chunk.now.file blocks c.args.configuration.now in
+    let place = place_at c.args.self.now c.args.here.chunk.now.file blocks c.args.configuration.now in
     too_deep g.M.Limit.world place asked.name.now (named_arguments asked.given) asked.body asked.span (variables_of c.args.configuration.now.scopes)
     c.in-Some.component c.in-Some.ensures c.in-Ok.context c.in-Ok.ensures c.message.result c.if-self-ge-MAX_DEPTH.true c.message.ensures

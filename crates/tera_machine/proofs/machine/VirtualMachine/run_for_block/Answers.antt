@@ -1,7 +1,6 @@
 use Rattle.std.proofs.Common.{◌++◌, Ok, Err, ap, ◌∙◌}
 use Rattle.tera_machine.specs.Config.{config_of}
-use Rattle.tera_machine.specs.declared.wanted.Wanted.{Wanted}
-use Rattle.tera_machine.specs.Wanted.{text_kept}
+use Rattle.tera_machine.specs.Wanted.{noted_name, text_kept}
 use Rattle.tera_machine.proofs.Conclusions.{can_run, gave_meant}
 use Rattle.tera_machine.proofs.Noting.{kept_is, gives_block, fails_block}
 use Rattle.tera_machine.proofs.Took.{place_none}
@@ -18,4 +17,4 @@ returns-in-Err-clause-text g c =
 pub returns-clause-text : goal.returns-clause-text
 returns-clause-text g c =
     gives_block c.args.block.now _ (config_of c.args.configuration.now) (config_of c.run_counted.new.configuration) _ (gave_meant g.about.world g.about.tree (place_none c.args.self.now c.args.chunk.now.file c.new-blocks.result c.args.configuration.now c.new-blocks.ensures.names c.new-blocks.ensures.above c.new-blocks.ensures.included ∙ c.requires.1.1.1.1.0) c.requires.1.1.1.1.1.0 (config_of c.args.configuration.now) c.requires.1.1.1.1.1.1.0 (Ok tt) _ _ c.in-Ok.ensures.ends)
-    (c.into_text.ensures ∙ kept_is c.args.block.now c.in-Ok.ensures.stays.since _ (ap (λ (w : Wanted). w.name) c.new-blocks.ensures.wanted ∙ c.in_ok-wanted.ensures.name) (ap text_kept c.new-blocks.ensures.wanted ∙ c.in_ok-wanted.ensures.last) (c.in-Ok.ensures.stays.ended ∙ ap (λ bs. bs ++ c.in-Ok.ensures.stays.since) c.requires.1.1.1.1.1.1.1) c.in-Ok.ensures.stays.noted)
+    (c.into_text.ensures ∙ kept_is c.args.block.now c.in-Ok.ensures.stays.since _ (ap noted_name c.new-blocks.ensures.wanted ∙ c.in_ok-wanted.ensures.name) (ap text_kept c.new-blocks.ensures.wanted ∙ c.in_ok-wanted.ensures.last) (c.in-Ok.ensures.stays.ended ∙ ap (λ bs. bs ++ c.in-Ok.ensures.stays.since) c.requires.1.1.1.1.1.1.1) c.in-Ok.ensures.stays.noted)

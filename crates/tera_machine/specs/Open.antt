@@ -29,7 +29,9 @@ use Rattle.tera_machine.specs.Apart.{Rejoins}
 use Rattle.tera_machine.specs.Wanted.{ended_by, Noted}
 
 -- at an instruction that takes another body
-pub record AtAsk (most : ℕ) (w : World) (p : Place) (code : Code) (c0 : Config) (n0 ip : ℕ) (c : Config) (n : ℕ) (i : Instruction) (c2 : Config) (n2 : ℕ) (q : Request) (u : Use) : Type 0 where
+pub record AtAsk (most : ℕ) (w : World) (p : Place) (code : Code) (c0 : Config) (n0 ip : ℕ)
+    (c : Config) (n : ℕ) (i : Instruction) (c2 : Config) (n2 : ℕ) (q : Request) (u : Use)
+    : Type 0 where
   pub progress : Advance most w p code c0 n0 ip c n
   pub is : slice_get code ip ≡ Some i
   pub count : n2 ≡ n + 1
@@ -57,7 +59,8 @@ HasOuter [] c = Unit {0}
 HasOuter (r ∷ rs) c = IsApart r.back → c.scopes.below ≢ []
 
 -- a body that was asked for is left
-pub record LeavesAsked (a : Asked) (r : Waiting) (b3 : OpenBlocks) (c3 : Configuration) (b4 : OpenBlocks) (c4 : Configuration) : Type 0 where
+pub record LeavesAsked (a : Asked) (r : Waiting) (b3 : OpenBlocks) (c3 : Configuration)
+    (b4 : OpenBlocks) (c4 : Configuration) : Type 0 where
   pub config : config_of c4
       ≡ closed_in (config_of c3).captures (request_of a) (use_of a) r.outer.ended.all
       (loops_at r.outer.places (coming_of c3.scopes)) (config_of c3)
@@ -69,13 +72,15 @@ pub record LeavesAsked (a : Asked) (r : Waiting) (b3 : OpenBlocks) (c3 : Configu
   pub scopes : c4.scopes ≡ c3.scopes
 
 -- and so is a body that stands in a state of its own
-pub record LeavesApart (u : Use) (around : Around) (r : Waiting) (b3 : OpenBlocks) (c3 : Configuration) (b4 : OpenBlocks) (c4 : Configuration) : Type 0 where
+pub record LeavesApart (u : Use) (around : Around) (r : Waiting) (b3 : OpenBlocks)
+    (c3 : Configuration) (b4 : OpenBlocks) (c4 : Configuration) : Type 0 where
   pub rejoins : Rejoins u c3 r.outer c4
   pub names : b4.names ≡ around.names
   pub above : b4.above ≡ r.above
   pub wanted : b4.wanted ≡ record b3.wanted { notes = around.notes }
 
-abbrev pub left_by : Back → Waiting → OpenBlocks → Configuration → OpenBlocks → Configuration → Type 0
+abbrev pub left_by : Back → Waiting → OpenBlocks → Configuration → OpenBlocks → Configuration
+    → Type 0
 left_by (back.Taken a) r b3 c3 b4 c4 = LeavesAsked a r b3 c3 b4 c4
 left_by (back.Included around template) r b3 c3 b4 c4 =
     LeavesApart Written around r b3 c3 b4 c4
@@ -87,7 +92,9 @@ abbrev pub Left : Waiting → OpenBlocks → Configuration → OpenBlocks → Co
 Left r b3 c3 b4 c4 = left_by r.back r b3 c3 b4 c4
 
 -- the body that waited runs again
-pub record Resumes {O : Type 0} (m3 : VirtualMachine O) (open3 : List Waiting) (b3 : OpenBlocks) (c3 : Configuration) (behind : Behind) (m4 : VirtualMachine O) (open4 : List Waiting) (b4 : OpenBlocks) (c4 : Configuration) : Type 0 where
+pub record Resumes {O : Type 0} (m3 : VirtualMachine O) (open3 : List Waiting) (b3 : OpenBlocks)
+    (c3 : Configuration) (behind : Behind) (m4 : VirtualMachine O) (open4 : List Waiting)
+    (b4 : OpenBlocks) (c4 : Configuration) : Type 0 where
   pub waiting : Waiting
   pub is : open3 ≡ waiting ∷ open4
   pub body : behind.body ≡ waiting.body
@@ -96,29 +103,47 @@ pub record Resumes {O : Type 0} (m3 : VirtualMachine O) (open3 : List Waiting) (
   pub left : Left waiting b3 c3 b4 c4
 
 -- what waits puts everything back, whatever the end of the body that it waits for
-pub record PutsBack (w : World) (p : Place) (q : Request) (u : Use) (b0 : OpenBlocks) (c0 : Configuration) (r : Waiting) (p1 : Place) (code1 : Code) (b1 : OpenBlocks) (c1 : Configuration) : Type 0 where
-  pub apart : (b3 : OpenBlocks) (c3 : Configuration) → Stays b1 c1 b3 c3 → IsApart r.back → c3.scopes.below ≢ []
-  pub closes : (most : ℕ) → BodyWithin w p q u (config_of c0) most → (b3 : OpenBlocks) (c3 : Configuration) (j : ℕ) → Stays b1 c1 b3 c3 → Ends w p1 code1 0 (config_of c1) (Finished (config_of c3) j) → (b4 : OpenBlocks) (c4 : Configuration) → Left r b3 c3 b4 c4 → BodyEnds w p q u (config_of c0) (Finished (config_of c4) j) × Stays b0 c0 b4 c4
+pub record PutsBack (w : World) (p : Place) (q : Request) (u : Use) (b0 : OpenBlocks)
+    (c0 : Configuration) (r : Waiting) (p1 : Place) (code1 : Code) (b1 : OpenBlocks)
+    (c1 : Configuration) : Type 0 where
+  pub apart : (b3 : OpenBlocks) (c3 : Configuration) → Stays b1 c1 b3 c3 → IsApart r.back
+      → c3.scopes.below ≢ []
+  pub closes : (most : ℕ) → BodyWithin w p q u (config_of c0) most
+      → (b3 : OpenBlocks) (c3 : Configuration) (j : ℕ) → Stays b1 c1 b3 c3
+      → Ends w p1 code1 0 (config_of c1) (Finished (config_of c3) j)
+      → (b4 : OpenBlocks) (c4 : Configuration) → Left r b3 c3 b4 c4
+      → BodyEnds w p q u (config_of c0) (Finished (config_of c4) j) × Stays b0 c0 b4 c4
 
 -- a body runs, and the one around it waits
-pub record Taken {O : Type 0} (w : World) (m : VirtualMachine O) (here : Listing) (next : ℕ) (q : Request) (u : Use) (b0 : OpenBlocks) (c0 : Configuration) (open0 : List Waiting) (m1 : VirtualMachine O) (body : Body) (b1 : OpenBlocks) (c1 : Configuration) (open1 : List Waiting) : Type 0 where
+pub record Taken {O : Type 0} (w : World) (m : VirtualMachine O) (here : Listing) (next : ℕ)
+    (q : Request) (u : Use) (b0 : OpenBlocks) (c0 : Configuration) (open0 : List Waiting)
+    (m1 : VirtualMachine O) (body : Body) (b1 : OpenBlocks) (c1 : Configuration)
+    (open1 : List Waiting) : Type 0 where
   pub waits : Waiting
   pub is : open1 ≡ waits ∷ open0
   pub machine : machine_again waits m1 ≡ m
   pub code : waits.body.chunk.now ≡ here
   pub at : waits.at ≡ next
-  pub enters : Entered w (place_at m here.file b0 c0) q (config_of c0) (place_at m1 body.chunk.now.file b1 c1) body.chunk.now.code (config_of c1)
-  pub keeps : PutsBack w (place_at m here.file b0 c0) q u b0 c0 waits (place_at m1 body.chunk.now.file b1 c1) body.chunk.now.code b1 c1
+  pub enters : Entered w (place_at m here.file b0 c0) q (config_of c0)
+      (place_at m1 body.chunk.now.file b1 c1) body.chunk.now.code (config_of c1)
+  pub keeps : PutsBack w (place_at m here.file b0 c0) q u b0 c0 waits
+      (place_at m1 body.chunk.now.file b1 c1) body.chunk.now.code b1 c1
   pub linked : IsLinked m1 w
   pub objects : m1.objects.now ≡ m.objects.now
 
-abbrev pub TakesBody : {O : Type 0} → World → VirtualMachine O → Listing → ℕ → Request → Use → OpenBlocks → Configuration → List Waiting → VirtualMachine O → Result Body SeenError → OpenBlocks → Configuration → List Waiting → Type 0
-TakesBody w m here next q u b0 c0 open0 m1 (Ok body) b1 c1 open1 = Taken w m here next q u b0 c0 open0 m1 body b1 c1 open1
+abbrev pub TakesBody : {O : Type 0} → World → VirtualMachine O → Listing → ℕ → Request → Use
+    → OpenBlocks → Configuration → List Waiting → VirtualMachine O → Result Body SeenError
+    → OpenBlocks → Configuration → List Waiting → Type 0
+TakesBody w m here next q u b0 c0 open0 m1 (Ok body) b1 c1 open1 =
+    Taken w m here next q u b0 c0 open0 m1 body b1 c1 open1
 TakesBody w m here next q u b0 c0 open0 m1 (Err None) b1 c1 open1 = Unit {0}
-TakesBody w m here next q u b0 c0 open0 m1 (Err (Some f)) b1 c1 open1 = way w (place_at m here.file b0 c0) q (config_of c0).run.vars ≡ Refuses f
+TakesBody w m here next q u b0 c0 open0 m1 (Err (Some f)) b1 c1 open1 =
+    way w (place_at m here.file b0 c0) q (config_of c0).run.vars ≡ Refuses f
 
 -- a body that waits, for one that began so
-pub record Waits (most : ℕ) (w : World) {O : Type 0} (m : VirtualMachine O) (here : Listing) (r : Waiting) (p1 : Place) (code1 : Code) (b1 : OpenBlocks) (c1 : Configuration) (n1 : ℕ) : Type 0 where
+pub record Waits (most : ℕ) (w : World) {O : Type 0} (m : VirtualMachine O) (here : Listing)
+    (r : Waiting) (p1 : Place) (code1 : Code) (b1 : OpenBlocks) (c1 : Configuration) (n1 : ℕ)
+    : Type 0 where
   pub began : OpenBlocks
   pub start : Configuration
   pub first : ℕ
@@ -130,10 +155,13 @@ pub record Waits (most : ℕ) (w : World) {O : Type 0} (m : VirtualMachine O) (h
   pub instruction : Instruction
   pub request : Request
   pub use' : Use
-  pub asks : AtAsk most w (place_at m here.file began start) here.code (config_of start) first ip before count instruction (config_of configuration) n1 request use'
+  pub asks : AtAsk most w (place_at m here.file began start) here.code (config_of start) first ip
+      before count instruction (config_of configuration) n1 request use'
   pub stays : Stays began start blocks configuration
-  pub enters : Entered w (place_at m here.file blocks configuration) request (config_of configuration) p1 code1 (config_of c1)
-  pub keeps : PutsBack w (place_at m here.file blocks configuration) request use' blocks configuration r p1 code1 b1 c1
+  pub enters : Entered w (place_at m here.file blocks configuration) request
+      (config_of configuration) p1 code1 (config_of c1)
+  pub keeps : PutsBack w (place_at m here.file blocks configuration) request use' blocks
+      configuration r p1 code1 b1 c1
   pub linked : IsLinked m w
   pub next : r.at ≡ ip + 1
 
@@ -146,14 +174,19 @@ pub record Beginning (O : Type 0) : Type 0 where
   pub count : ℕ
 
 -- a run that began so came, with these bodies waiting, to the start of a body
-abbrev pub Came : {O : Type 0} → ℕ → World → Beginning O → List Waiting → VirtualMachine O → Listing → OpenBlocks → Configuration → ℕ → Type 0
-Came most w o [] m code b c n = o ≡ record { machine = m; code = code; blocks = b; configuration = c; count = n }
+abbrev pub Came : {O : Type 0} → ℕ → World → Beginning O → List Waiting → VirtualMachine O → Listing
+    → OpenBlocks → Configuration → ℕ → Type 0
+Came most w o [] m code b c n =
+    o ≡ record { machine = m; code = code; blocks = b; configuration = c; count = n }
 Came most w o (r ∷ rs) m code b c n =
-    (x : Waits most w (machine_again r m) r.body.chunk.now r (place_at m code.file b c) code.code b c n)
+    (x : Waits most w (machine_again r m) r.body.chunk.now r
+        (place_at m code.file b c) code.code b c n)
     × Came most w o rs (machine_again r m) r.body.chunk.now x.began x.start x.first
 
 -- and in that body, which this machine runs, to this position
-pub record Running {O : Type 0} (most : ℕ) (w : World) (o : Beginning O) (open' : List Waiting) (m : VirtualMachine O) (code : Listing) (ip : ℕ) (b : OpenBlocks) (c : Configuration) (n : ℕ) : Type 0 where
+pub record Running {O : Type 0} (most : ℕ) (w : World) (o : Beginning O) (open' : List Waiting)
+    (m : VirtualMachine O) (code : Listing) (ip : ℕ) (b : OpenBlocks) (c : Configuration) (n : ℕ)
+    : Type 0 where
   pub counted : o.count ≤ n
   pub bounded : o.count ≤ most → n ≤ most
   pub began : OpenBlocks
@@ -162,5 +195,6 @@ pub record Running {O : Type 0} (most : ℕ) (w : World) (o : Beginning O) (open
   pub came : Came most w o open' m code began start first
   pub linked : IsLinked m w
   pub objects : m.objects.now ≡ o.machine.objects.now
-  pub progress : Advance most w (place_at m code.file began start) code.code (config_of start) first ip (config_of c) n
+  pub progress : Advance most w (place_at m code.file began start) code.code (config_of start) first
+      ip (config_of c) n
   pub stays : Stays began start b c

@@ -180,7 +180,7 @@ Came most w o [] m code b c n =
     o ≡ record { machine = m; code = code; blocks = b; configuration = c; count = n }
 Came most w o (r ∷ rs) m code b c n =
     (x : Waits most w (machine_again r m) r.body.chunk.now r
-        (place_at m code.file b c) code.code b c n)
+    (place_at m code.file b c) code.code b c n)
     × Came most w o rs (machine_again r m) r.body.chunk.now x.began x.start x.first
 
 -- and in that body, which this machine runs, to this position

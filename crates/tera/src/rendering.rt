@@ -55,10 +55,10 @@ impl<O: Objects> TeraOver<O> {
 
     // The text of these nodes, which stand beside the registry; an error where they call or include what is not there. The
     // subject is theirs.
-    fn render_nodes<L: Ledger>(
-        &self,
+    fn render_nodes<'s, L: Ledger>(
+        &'s self,
         nodes: &[Node],
-        context: &Context,
+        context: &'s Context,
         autoescape: bool,
         blank: Blank,
     ) -> TeraResult<String>

@@ -1,4 +1,4 @@
-use Rattle.std.proofs.Common.{◌≡◌, ◌∙◌, [], Ok, subst, sym, ap, ap₂}
+use Rattle.std.proofs.Common.{◌∙◌, [], Ok, subst, sym, ap, ap₂}
 use Rattle.tera_syntax_tree.specs.Delimiters.{delimiters_of}
 use Rattle.tera_values.specs.Named.{put_all}
 use Rattle.tera_registry.specs.Order.{Rises}

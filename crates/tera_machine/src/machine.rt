@@ -343,12 +343,12 @@ impl<'t, O: Objects> VirtualMachine<'t, O> {
         asked: Asked<'t>,
         blocks: &mut OpenBlocks<'t>,
         configuration: &mut Configuration<'_>,
-        open: &mut Stack<Waiting<'t>>,
+        waiting: &mut Stack<Waiting<'t>>,
     ) -> TeraResult<Body<'t>>
         requires linked { IsLinked self.now M.world }
         ensures { TakesBody M.world self.now here.entry.chunk.now at (request_of asked.entry)
-            (use_of asked.entry) blocks.old configuration.old open.old self.now result blocks.new
-            configuration.new open.new }
+            (use_of asked.entry) blocks.old configuration.old waiting.old self.now result blocks.new
+            configuration.new waiting.new }
     {
         let inside = match self.enter::<M>(here.chunk, asked, blocks, configuration) {
             Ok(inside) => inside,
@@ -359,7 +359,7 @@ impl<'t, O: Objects> VirtualMachine<'t, O> {
             above,
             outer,
         } = inside;
-        open.push(Waiting {
+        waiting.push(Waiting {
             body: here,
             at,
             above,
@@ -381,12 +381,12 @@ impl<'t, O: Objects> VirtualMachine<'t, O> {
         asked: AskedTemplate<'t>,
         blocks: &mut OpenBlocks<'t>,
         configuration: &mut Configuration<'_>,
-        open: &mut Stack<Waiting<'t>>,
+        waiting: &mut Stack<Waiting<'t>>,
     ) -> TeraResult<Body<'t>>
         requires linked { IsLinked self.old M.world }
         ensures { TakesBody M.world self.old here.entry.chunk.now at (include_request asked.entry)
-            Written blocks.old configuration.old open.old self.new result blocks.new
-            configuration.new open.new }
+            Written blocks.old configuration.old waiting.old self.new result blocks.new
+            configuration.new waiting.new }
     {
         let found = match self.included::<M>(here, asked, blocks) {
             Ok(found) => found,
@@ -396,7 +396,7 @@ impl<'t, O: Objects> VirtualMachine<'t, O> {
         blocks.included.names.push(found.name)?;
         let above = blocks.above;
         let around = blocks.enter_apart(self.alloc);
-        open.push(Waiting {
+        waiting.push(Waiting {
             body: here,
             at,
             above,
@@ -422,12 +422,12 @@ impl<'t, O: Objects> VirtualMachine<'t, O> {
         asked: Box<AskedComponent<'t>>,
         blocks: &mut OpenBlocks<'t>,
         configuration: &mut Configuration<'_>,
-        open: &mut Stack<Waiting<'t>>,
+        waiting: &mut Stack<Waiting<'t>>,
     ) -> TeraResult<Body<'t>>
         requires linked { IsLinked self.old M.world }
         ensures { TakesBody M.world self.old here.entry.chunk.now at
             (component_request asked.entry.value) (component_use asked.entry.value) blocks.old
-            configuration.old open.old self.new result blocks.new configuration.new open.new }
+            configuration.old waiting.old self.new result blocks.new configuration.new waiting.new }
     {
         let asked = Box::into_inner(asked);
         let safe = asked.safe;
@@ -445,7 +445,7 @@ impl<'t, O: Objects> VirtualMachine<'t, O> {
         let above = blocks.above;
         let around = blocks.enter_apart(self.alloc);
         let included = replace(&mut blocks.included, Included::new(self.alloc));
-        open.push(Waiting {
+        waiting.push(Waiting {
             body: here,
             at,
             above,
@@ -468,15 +468,15 @@ impl<'t, O: Objects> VirtualMachine<'t, O> {
     #[inline(never)]
     fn leave(
         &mut self,
-        open: &mut Stack<Waiting<'t>>,
+        waiting: &mut Stack<Waiting<'t>>,
         blocks: &mut OpenBlocks<'t>,
         configuration: &mut Configuration<'_>,
     ) -> TeraResult<Behind<'t>>
-        requires waits { open.old ≢ [] }
+        requires waits { waiting.old ≢ [] }
         requires text { (config_of configuration.old).captures ≢ [] }
-        requires state { HasOuter open.old configuration.old }
-        ensures ok { IfOk result (λ behind. Resumes self.old open.old blocks.old configuration.old
-            behind self.new open.new blocks.new configuration.new) }
+        requires state { HasOuter waiting.old configuration.old }
+        ensures ok { IfOk result (λ behind. Resumes self.old waiting.old blocks.old configuration.old
+            behind self.new waiting.new blocks.new configuration.new) }
         ensures lacks { IfErr result Lacks }
     {
         let Waiting {
@@ -485,7 +485,7 @@ impl<'t, O: Objects> VirtualMachine<'t, O> {
             above,
             outer,
             back,
-        } = open.take();
+        } = waiting.take();
         match back {
             Back::Taken(asked) => {
                 configuration.end_body(asked, outer, &mut blocks.wanted)?;

@@ -15,7 +15,7 @@ pub returns-in-Err : goal.returns-in-Err
 returns-in-Err g c =
     let place = place_at c.args.self.now c.args.here.chunk.now.file c.args.blocks.now c.args.configuration.now in
     let refused = subst (λ (a : AskedComponent). Calls g.M.Limit.world place (component_request a) (config_of c.args.configuration.now).run.vars (Err c.in-Err.error)) c.into_inner-asked.ensures (c.in-Err.ensures c.args.blocks.now) in
-    not_called g.M.Limit.world c.args.self.now c.args.here.chunk.now c.args.at (component_request c.args.asked.value) (component_use c.args.asked.value) c.args.blocks.now c.args.configuration.now c.args.open.now c.args.self.now c.args.blocks.now c.args.configuration.now c.args.open.now c.in-Err.error refused
+    not_called g.M.Limit.world c.args.self.now c.args.here.chunk.now c.args.at (component_request c.args.asked.value) (component_use c.args.asked.value) c.args.blocks.now c.args.configuration.now c.args.waiting.now c.args.self.now c.args.blocks.now c.args.configuration.now c.args.waiting.now c.in-Err.error refused
 
 pub returns : goal.returns
 returns g c =
@@ -31,7 +31,7 @@ returns g c =
     let none = ap names_in c.replace-included.ensures.after ∙ c.new.ensures in
     let same = c.replace-included.ensures.value ∙ apart.included in
     let entry = call_entered w m here.file (component_request asked) (component_use asked) b0 c0 (c.in-Ok.ensures b0) m1 b1 refl refl refl apart.names apart.above none c.in_ok-outer.ensures.begins in
-    subst (λ (a : AskedComponent). Taken w m here c.args.at (component_request a) (component_use a) b0 c0 c.args.open.now m1 c.in-Ok.called.body b1 c.begin_component.new.self c.push.new.self) c.into_inner-asked.ensures (record {
+    subst (λ (a : AskedComponent). Taken w m here c.args.at (component_request a) (component_use a) b0 c0 c.args.waiting.now m1 c.in-Ok.called.body b1 c.begin_component.new.self c.push.new.self) c.into_inner-asked.ensures (record {
       waits = record {
         body = c.args.here;
         at = c.args.at;

@@ -10,7 +10,7 @@ use Rattle.tera_machine.proofs.machine.VirtualMachine.include.Goals as goal
 
 pub returns-in-Err : goal.returns-in-Err
 returns-in-Err g c =
-    not_taken g.M.Limit.world c.args.self.now c.args.here.chunk.now c.args.at (include_request c.args.asked) Written c.args.blocks.now c.args.configuration.now c.args.open.now c.args.self.now c.args.blocks.now c.args.configuration.now c.args.open.now c.in-Err.error (c.in-Err.ensures c.args.configuration.now)
+    not_taken g.M.Limit.world c.args.self.now c.args.here.chunk.now c.args.at (include_request c.args.asked) Written c.args.blocks.now c.args.configuration.now c.args.waiting.now c.args.self.now c.args.blocks.now c.args.configuration.now c.args.waiting.now c.in-Err.error (c.in-Err.ensures c.args.configuration.now)
 
 pub returns : goal.returns
 returns g c =

@@ -8,47 +8,54 @@ use Rattle.tera_values.specs.Val.{Val}
 use Rattle.tera_values.specs.Named.{Named}
 use Rattle.tera_syntax_tree.specs.Tree.{Nodes}
 use Rattle.tera_meaning.specs.Registry.{Registry}
-use Rattle.tera_meaning.specs.Resolve.{resolve, root}
+use Rattle.tera_meaning.specs.Resolve.{entry_at, resolve, root}
 use Rattle.tera_state.specs.Scope.{nothing_set}
 use Rattle.tera_meaning.specs.Run.{Signal, Answer, begun}
 use Rattle.tera_meaning.specs.Lineage.{Definer, definers}
 use Rattle.tera_meaning.specs.Rendering.{alone, autoescapes, text_of, template_meaning, render, render_in, render_template, block_among, render_template_block, render_block, render_block_in}
-use Rattle.tera_code.specs.Code.{nodes_code}
+use Rattle.tera_code.specs.Code.{listing_of, nodes_code}
 use Rattle.tera_code.specs.Listing.{Listing}
 use Rattle.tera_marks.specs.Origin.{Traces}
 use Rattle.tera_marks.proofs.Traced.{templates_are_traced, blocks_are_traced}
 use Rattle.tera_machine.specs.Subject.{meant}
+use Rattle.tera_registry.specs.HandedOut.{IsRootOf}
 use Rattle.tera_registry.specs.Templates.{Leads, with_templates, definers_of}
 use Rattle.tera_registry.specs.declared.templates.FoundTemplate.{FoundTemplate}
 use Rattle.tera_registry.specs.declared.templates.Definers.{Definers}
 use Rattle.tera.specs.Registry.{nodes_in, nodes_of_file, subject_of, subject_of_file, text_meant, block_meant}
 use Rattle.tera.specs.Rendering.{ByName, BlockByName}
-use Rattle.tera.proofs.Owned.{owns-root}
+use Rattle.tera.proofs.Owned.{owns-resolved, owns-root}
 
-module _ (r : Registry) (name : Name) (found : FoundTemplate) (leads : Leads r name found) where
-  file-found : found.chunk.now.file ≡ (root r leads.entry).0
-  file-found = ap (λ (l : Listing). l.file) leads.code
+-- the code with which a rendering of a template begins is that of its root
+pub own-root : (r : Registry) (name : Name) (found : FoundTemplate) (leads : Leads r name found) (code : Listing) → ((s : Registry) → IsRootOf (with_templates s found.templates.now) found.name.now code) → code ≡ listing_of (root r leads.entry).0 (root r leads.entry).1.tree.nodes
+own-root r name found leads code is =
+    let stands : entry_at found.name.now r.templates ≡ Some leads.entry = ap (λ n. entry_at n r.templates) leads.named ∙ owns-resolved r name leads.entry leads.resolves in
+    subst (λ s. IsRootOf s found.name.now code) leads.among (is r) leads.entry stands
 
-  nodes-found : nodes_of_file r found.chunk.now.file ≡ (root r leads.entry).1.tree.nodes
+module _ (r : Registry) (name : Name) (found : FoundTemplate) (leads : Leads r name found) (code : Listing) (own : code ≡ listing_of (root r leads.entry).0 (root r leads.entry).1.tree.nodes) where
+  file-found : code.file ≡ (root r leads.entry).0
+  file-found = ap (λ (l : Listing). l.file) own
+
+  nodes-found : nodes_of_file r code.file ≡ (root r leads.entry).1.tree.nodes
   nodes-found = ap (nodes_of_file r) file-found ∙ ap nodes_in (owns-root r name leads.entry leads.resolves)
 
-  pub code-found : found.chunk.now.code ≡ nodes_code (nodes_of_file r found.chunk.now.file) 0
-  code-found = ap (λ (l : Listing). l.code) leads.code ∙ ap (λ ns. nodes_code ns 0) (sym nodes-found)
+  pub code-found : code.code ≡ nodes_code (nodes_of_file r code.file) 0
+  code-found = ap (λ (l : Listing). l.code) own ∙ ap (λ ns. nodes_code ns 0) (sym nodes-found)
 
 -- what the body that was found means is what the template means
-answer-found : (r : Registry) (name : Name) (context : Named Val) (found : FoundTemplate) (leads : Leads r name found)
-    → meant (subject_of_file r found.name.now found.chunk.now.file context) (begun nothing_set) ≡ template_meaning r leads.entry context
-answer-found r name context found leads =
+answer-found : (r : Registry) (name : Name) (context : Named Val) (found : FoundTemplate) (leads : Leads r name found) (code : Listing) (own : code ≡ listing_of (root r leads.entry).0 (root r leads.entry).1.tree.nodes)
+    → meant (subject_of_file r found.name.now code.file context) (begun nothing_set) ≡ template_meaning r leads.entry context
+answer-found r name context found leads code own =
     let top = root r leads.entry in
     let m : Name → Name → Nodes → Answer Signal = λ n file ns. meant (subject_of (alone r) (Some n) file ns context (autoescapes r n)) (begun nothing_set) in
-    ap (λ file. m found.name.now file (nodes_of_file r found.chunk.now.file)) (file-found r name found leads)
-    ∙ ap (m found.name.now top.0) (nodes-found r name found leads)
+    ap (λ file. m found.name.now file (nodes_of_file r code.file)) (file-found r name found leads code own)
+    ∙ ap (m found.name.now top.0) (nodes-found r name found leads code own)
     ∙ ap (λ n. m n top.0 top.1.tree.nodes) leads.named
 
 -- so its text is what the name renders to
-pub text-found : (r : Registry) (name : Name) (context : Named Val) (found : FoundTemplate) → Leads r name found → text_meant (subject_of_file r found.name.now found.chunk.now.file context) ≡ render r name context
-text-found r name context found leads =
-    ap text_of (answer-found r name context found leads)
+pub text-found : (r : Registry) (name : Name) (context : Named Val) (found : FoundTemplate) (leads : Leads r name found) (code : Listing) (own : code ≡ listing_of (root r leads.entry).0 (root r leads.entry).1.tree.nodes) → text_meant (subject_of_file r found.name.now code.file context) ≡ render r name context
+text-found r name context found leads code own =
+    ap text_of (answer-found r name context found leads code own)
     ∙ sym (ap (λ o. render_template r o context) leads.resolves)
 
 module _ (r : Registry) (name block : Name) (context : Named Val) (found : FoundTemplate) (leads : Leads r name found) (ds : Definers) (of_block : (s : Registry) → definers_of ds ≡ definers (with_templates s found.templates.now) (Some found.name.now) block) where
@@ -68,9 +75,9 @@ module _ (r : Registry) (name block : Name) (context : Named Val) (found : Found
   block-missing e = meant-by (template_meaning r leads.entry context) [] refl e
 
   -- any other has the text of the last one that ended
-  pub block-found : (d : Definer) (more : List Definer) → definers_of ds ≡ d ∷ more → block_meant block (subject_of_file r found.name.now found.chunk.now.file context) ≡ render_block r name block context
-  block-found d more e =
-      sym (meant-by (meant (subject_of_file r found.name.now found.chunk.now.file context) (begun nothing_set)) (d ∷ more) (sym (answer-found r name context found leads)) e)
+  pub block-found : (code : Listing) (own : code ≡ listing_of (root r leads.entry).0 (root r leads.entry).1.tree.nodes) (d : Definer) (more : List Definer) → definers_of ds ≡ d ∷ more → block_meant block (subject_of_file r found.name.now code.file context) ≡ render_block r name block context
+  block-found code own d more e =
+      sym (meant-by (meant (subject_of_file r found.name.now code.file context) (begun nothing_set)) (d ∷ more) (sym (answer-found r name context found leads code own)) e)
 
 module _ (r : Registry) (name : Name) (context : Named Val) where
   by_name : (answer : Result Text Fault) → answer ≡ render r name context → ByName r name context answer

@@ -62,7 +62,8 @@ module _ (ts : Named Template) where
         owns-step left n ps t (find n) (λ p qs o u. owns-last left p.1.tree.parent qs p o u) refl is
 
 module _ (r : Registry) where
-  owns-resolved : (n : Name) (t : Entry) → resolve r n ≡ Some t → Owns r.templates t
+  -- what a name leads to stands at its own
+  pub owns-resolved : (n : Name) (t : Entry) → resolve r n ≡ Some t → Owns r.templates t
   owns-resolved n t is = owns-first r.templates (n ∷ map (λ p. p ++ n) r.prefixes) t is
 
   owns-root-by : (t : Entry) (a : Result (List Entry) Fault) → Owns r.templates t → parents r t ≡ a → Owns r.templates (last_of t (or_none a))

@@ -5,7 +5,7 @@ ghost use Rattle.tera_values.specs.Prelude.{text};
 ghost use Rattle.tera_state.specs.Prelude.{nothing_set, around_of, variables_of};
 ghost use Rattle.tera_code.specs.Prelude.{listing_of};
 ghost use Rattle.tera_meaning.specs.Prelude.{is_component, AreComponentNames, component, render_component};
-ghost use Rattle.tera_registry.specs.Prelude.{IsDefined};
+ghost use Rattle.tera_registry.specs.Prelude.{code_of, IsDefined};
 ghost use Rattle.tera_machine.specs.Prelude.{Subject};
 ghost use Rattle.tera.specs.Lent.{lent_text};
 ghost use Rattle.tera.specs.Rendering.{ComponentByName, AppendsOneOf};
@@ -103,8 +103,9 @@ impl<O: Objects> TeraOver<O> {
         body: Option<&str>,
         autoescape: bool,
     ) -> TeraResult<String>
-        requires { IsDefined (component (registry_of O.engine self.now) found.definition.now.name)
-            (Some found) }
+        requires defined { IsDefined
+            (component (registry_of O.engine self.now) found.definition.now.name) (Some found) }
+        requires here { found.body.templates.now ≡ self.now.templates }
         ensures { Gives string_bytes result (render_component (registry_of O.engine self.now)
             found.entry.definition.now.name args.now implicits.now (lent_text body.entry)
             autoescape) }
@@ -133,17 +134,13 @@ impl<O: Objects> TeraOver<O> {
         requires subject { about ≡ subject_of_component (registry_of O.engine self.now)
             (component (registry_of O.engine self.now) found.definition.now.name)
             (around_of scopes) autoescape }
-        requires code { found.chunk.now ≡ listing_of about.place.file about.tree }
+        requires here { found.body.templates.now ≡ self.now.templates }
+        requires code { code_of found.body ≡ listing_of about.place.file about.tree }
         requires fresh { variables_of scopes ≡ nothing_set }
         ensures { Gives string_bytes result (text_meant about) }
     {
-        let machine = VirtualMachine::new_with_autoescape(
-            self.alloc,
-            autoescape,
-            &self.templates,
-            &self.objects,
-        ).linked_at(found.home);
-        self.run_within::<L>(&machine, found.chunk, scopes, blank)
+        let machine = VirtualMachine::new_with_autoescape(self.alloc, autoescape, &self.objects);
+        self.run_within::<L>(&machine, found.body, scopes, blank)
     }
 }
 

@@ -12,13 +12,15 @@ pub use engine::{Tera, TeraOver};
 pub use tera_built_ins::EscapeFn;
 pub use tera_code::{
     CallKind, Callee, Chunk, Comparison, Compiler, Constant, Instruction, Keys, LentInstruction,
-    LentName, Names, Reference, Spreads, Steps, Text,
+    LentName, Names, Spreads, Steps, Text,
 };
 pub use tera_components::{ComponentArg, ComponentDefinition, ComponentInfo};
 pub use tera_machine::{Configuration, Ended, LoopPlace, Texts, VirtualMachine};
 pub use tera_objects::{Call, CallerObjects, Objects, ObjectsOver, OwnFilters, Table};
 pub use tera_operators::{Entries, LentOperand, Operand};
-pub use tera_registry::{Component, Defined, Definer, Definers, FoundTemplate, Home, Templates};
+pub use tera_registry::{
+    Body, Component, Defined, Definer, Definers, FoundTemplate, Templates, TextTable,
+};
 pub use tera_state::{
     Filter, ForLoop, ForLoopIterator, Found, Function, Stack, State, StateOver, StringInput, Test,
 };

@@ -5,9 +5,9 @@ ghost use Rattle.tera_syntax_tree.specs.Prelude.{blocks, nodes_of, tree_of};
 ghost use Rattle.tera_state.specs.Prelude.{nothing_set, around_of, variables_of};
 ghost use Rattle.tera_meaning.specs.Prelude.{outermost};
 ghost use Rattle.tera_code.specs.Prelude.{nodes_code};
-ghost use Rattle.tera_registry.specs.Prelude.{with_templates};
+ghost use Rattle.tera_registry.specs.Prelude.{code_of, with_templates};
 ghost use Rattle.tera.specs.Rendering.{OneOff, allowed};
-ghost use Rattle.tera_machine.specs.Prelude.{Subject, IsLinked, engine_of};
+ghost use Rattle.tera_machine.specs.Prelude.{Subject, IsLinked, IsOf, engine_of};
 
 use crate::engine::TeraOver;
 use std::alloc::{AllocError, Global};
@@ -16,9 +16,9 @@ use std::sync::ledger::{Blank, Ledger};
 use tera_code::{Chunk, Steps, compiled};
 use tera_machine::{Configuration, VirtualMachine};
 use tera_objects::Objects;
-use tera_registry::FoundTemplate;
 use tera_registry::components::components;
 use tera_registry::tops::top_blocks;
+use tera_registry::{Body, FoundTemplate, TextTable};
 use tera_state::Scopes;
 use tera_syntax::parse;
 use tera_syntax_tree::{Node, ParserOutput};
@@ -73,51 +73,48 @@ impl<O: Objects> TeraOver<O> {
         let alloc = self.alloc;
         let chunk = compiled(alloc, ONE_OFF, nodes)?;
         let own = components(alloc, ONE_OFF, nodes)?;
-        if self
-            .templates
-            .lacks_a_callee(&self.objects, &chunk, own.as_slice())
-        {
+        let text = TextTable::new(alloc, &self.templates, chunk, own)?;
+        if text.lacks_a_callee(&self.objects) {
             return Err(Error::message(alloc, "what is called is not there"));
         }
         if self.templates.misses_an_include(nodes) {
             return Err(Error::message(alloc, "what is included is not there"));
         }
-        let alone = VirtualMachine::new_with_autoescape(
-            alloc,
-            autoescape,
-            &self.templates,
-            &self.objects,
-        );
-        let machine = alone.with_components(own.as_slice());
-        let scopes = self.scopes_for(&chunk, context)?;
-        self.run_within::<L>(&machine, &chunk, scopes, blank)
+        let alone = VirtualMachine::new_with_autoescape(alloc, autoescape, &self.objects);
+        let machine = alone.with_text(&text);
+        let body = text.body();
+        let scopes = self.scopes_for(body.chunk(), context)?;
+        self.run_within::<L>(&machine, body, scopes, blank)
     }
 
     // The text of a template that was found, from the body of its root on: the file that its code names says of which. The
     // subject is that body's.
-    pub(crate) fn render_found(
+    pub(crate) fn render_found<'t>(
         &self,
-        found: FoundTemplate<'_>,
+        found: FoundTemplate<'t>,
+        root: Body<'t>,
         context: &Context,
     ) -> TeraResult<String>
         ghost about: { Subject }
         requires subject { about ≡ subject_of_file (registry_of O.engine self.now) found.name.now
-            found.chunk.now.file context.now }
+            (code_of root).file context.now }
         requires linked { with_templates about.world.registry found.templates.now
             ≡ about.world.registry }
-        requires code { found.chunk.now.code ≡ nodes_code about.tree 0 }
+        requires root { root.templates.now ≡ found.templates.now }
+        requires code { (code_of root).code ≡ nodes_code about.tree 0 }
         ensures { Gives string_bytes result (text_meant about) }
     {
         let autoescape = self.escapes(found);
         let machine = VirtualMachine::for_template(self.alloc, autoescape, found, &self.objects);
-        let scopes = self.scopes_for(found.chunk, context)?;
-        self.run_within::<Brand>(&machine, found.chunk, scopes, Blank::new(1))
+        let scopes = self.scopes_for(root.chunk(), context)?;
+        self.run_within::<Brand>(&machine, root, scopes, Blank::new(1))
     }
 
     // The text that a block of a template had when it ended last, while all of the template was rendered. The subject is as above.
-    pub(crate) fn render_found_block<L: Ledger>(
+    pub(crate) fn render_found_block<'t, L: Ledger>(
         &self,
-        found: FoundTemplate<'_>,
+        found: FoundTemplate<'t>,
+        root: Body<'t>,
         block: &Name,
         context: &Context,
         blank: Blank,
@@ -125,18 +122,19 @@ impl<O: Objects> TeraOver<O> {
         ghost about: { Subject }
         requires ledger { (blank.name ≡ L.name) × (blank.parts ≡ L.parts) × (L.parts ≡ 1) }
         requires subject { about ≡ subject_of_file (registry_of O.engine self.now) found.name.now
-            found.chunk.now.file context.now }
+            (code_of root).file context.now }
         requires linked { with_templates about.world.registry found.templates.now
             ≡ about.world.registry }
-        requires code { found.chunk.now.code ≡ nodes_code about.tree 0 }
+        requires root { root.templates.now ≡ found.templates.now }
+        requires code { (code_of root).code ≡ nodes_code about.tree 0 }
         ensures { Gives string_bytes result (block_meant block.now about) }
     {
         let autoescape = self.escapes(found);
         let machine = VirtualMachine::for_template(self.alloc, autoescape, found, &self.objects);
-        let scopes = self.scopes_for(found.chunk, context)?;
+        let scopes = self.scopes_for(root.chunk(), context)?;
         let mut configuration = Configuration::new(self.alloc, scopes);
         let mut steps = Steps::<L>::new(blank);
-        machine.run_for_block::<L>(found.chunk, block, &mut configuration, &mut steps)
+        machine.run_for_block::<L>(root, block, &mut configuration, &mut steps)
     }
 
     // The scopes of a body that reads this context: names that its code reads often are found without a search.
@@ -158,7 +156,7 @@ impl<O: Objects> TeraOver<O> {
     pub(crate) fn run_within<'t, L: Ledger>(
         &self,
         machine: &VirtualMachine<'t, O>,
-        chunk: &'t Chunk,
+        body: Body<'t>,
         scopes: Scopes<'_>,
         blank: Blank,
     ) -> TeraResult<String>
@@ -167,14 +165,15 @@ impl<O: Objects> TeraOver<O> {
         requires registry { about.world.registry ≡ registry_of O.engine self.now }
         requires engine { engine_of O.engine machine.now ≡ about.world.registry.engine }
         requires linked { IsLinked machine.now about.world }
-        requires place { place_in machine.now chunk.now.file (around_of scopes) ≡ about.place }
+        requires here { IsOf about.world.registry body }
+        requires place { place_in machine.now (code_of body).file (around_of scopes) ≡ about.place }
         requires fresh { variables_of scopes ≡ nothing_set }
-        requires code { chunk.now.code ≡ nodes_code about.tree 0 }
+        requires code { (code_of body).code ≡ nodes_code about.tree 0 }
         ensures { Gives string_bytes result (text_meant about) }
     {
         let mut configuration = Configuration::new(self.alloc, scopes);
         let mut steps = Steps::<L>::new(blank);
-        match machine.run::<L>(chunk, &mut configuration, &mut steps) {
+        match machine.run::<L>(body, &mut configuration, &mut steps) {
             Ok(()) => Ok(configuration.texts.into_string()),
             Err(error) => Err(error),
         }

@@ -72,7 +72,7 @@ impl<O: Objects> TeraOver<O> {
             (ByName (registry_of O.engine self.now) name.now context.now) }
     {
         match self.templates.find(name) {
-            Some(found) => self.render_found(found, context),
+            Some(found) => self.render_found(found, found.root(), context),
             None => Err(Error::template_not_found()),
         }
     }
@@ -105,7 +105,13 @@ impl<O: Objects> TeraOver<O> {
             Some(found) => match found.definers(block).next() {
                 Some(_) => {
                     let wanted = Name::new(self.alloc, block)?;
-                    self.render_found_block::<Brand>(found, &wanted, context, Blank::new(1))
+                    self.render_found_block::<Brand>(
+                        found,
+                        found.root(),
+                        &wanted,
+                        context,
+                        Blank::new(1),
+                    )
                 }
                 None => Err(Error::message(self.alloc, "no template has this block")),
             },

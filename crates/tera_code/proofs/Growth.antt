@@ -17,7 +17,7 @@ use Rattle.tera_code.specs.declared.packed.Packed.{Packed}
 use Rattle.tera_code.specs.declared.packed.Packed.TheVariants as packed
 use Rattle.tera_code.specs.declared.packed.LoopNames.{LoopNames}
 use Rattle.tera_code.specs.declared.packed.Tables.{Tables}
-use Rattle.tera_code.specs.Packed.{Shelf, shelf_of, Longer, Grows, Packs, Within, unpacked, span_at, name_at, call_at, reference_at}
+use Rattle.tera_code.specs.Packed.{Shelf, shelf_of, Longer, Grows, Packs, Within, unpacked, span_at, name_at, call_at, target_at}
 use Rattle.tera_code.specs.Listing.{Listing}
 use Rattle.tera_code.specs.Code.{lengthened}
 use Rattle.tera_code.specs.Filling.{filled}
@@ -129,10 +129,10 @@ module _ (s t : Shelf) (u : IsUtf8 s.pool) (v : IsUtf8 t.pool) (g : Grows s t) w
   stays (packed.JumpIfFalseOrPop skip) w = (tt, refl)
   stays (packed.JumpIfTrueOrPop skip) w = (tt, refl)
   stays (packed.TakeBlock name span) w = named (λ x y. instruction.TakeBlock x y) name span w
-  stays (packed.TakeInclude reference span) w = beside s.references t.references [] g.1.1.1.1.1.1.1.1 (λ x y. instruction.TakeInclude x y) reference span w
-  stays (packed.TakeComponent has_body reference keys span) w =
-      let name = at_longer s.references t.references reference [] g.1.1.1.1.1.1.1.1 w.0 in
-      let rest = beside s.keys t.keys [] g.1.1.1.1.0 (λ y z. instruction.TakeComponent (reference_at s reference) y has_body z) keys span (w.1, w.2) in
+  stays (packed.TakeInclude target span) w = beside s.targets t.targets [] g.1.1.1.1.1.1.1.1 (λ x y. instruction.TakeInclude x y) target span w
+  stays (packed.TakeComponent has_body target keys span) w =
+      let name = at_longer s.targets t.targets target [] g.1.1.1.1.1.1.1.1 w.0 in
+      let rest = beside s.keys t.keys [] g.1.1.1.1.0 (λ y z. instruction.TakeComponent (target_at s target) y has_body z) keys span (w.1, w.2) in
       ((name.0, rest.0.0, rest.0.1), ap (λ x. instruction.TakeComponent x (get_or t.keys keys []) has_body (span_at t span)) name.1 ∙ rest.1)
   stays (packed.TakeAbove span arguments) w = spanned (λ y. instruction.TakeAbove arguments y) span w
   stays (packed.ApplyFilter call span) w = called (λ x y. instruction.ApplyFilter x.0 x.1 y) call span w

@@ -7,5 +7,6 @@ pub mod Blocks
 pub mod Asked
 pub mod Printing
 pub mod Called
+pub mod Targets
 pub mod Calls
 pub mod Prelude

@@ -27,7 +27,7 @@ pub record Shelf : Type 0 where
   -- the name that is called, and the names of the arguments
   pub calls : List (Text × List Text)
   -- the names of what is taken and stands elsewhere
-  pub references : List Text
+  pub targets : List Text
 
 abbrev pub shelf_of : Tables → Shelf
 shelf_of t =
@@ -40,7 +40,7 @@ shelf_of t =
       spans = t.spans.items;
       loops = t.loops.items;
       calls = map (λ c. (c.name, c.arguments.items)) t.calls.items;
-      references = map (λ r. r.name) t.references.items;
+      targets = t.targets.items;
     }
 
 abbrev pub span_at : Shelf → ℕ → Span
@@ -55,8 +55,8 @@ loop_at s i = get_or s.loops i (record { key = None; name = [] })
 abbrev pub call_at : Shelf → ℕ → Text × List Text
 call_at s i = get_or s.calls i ([], [])
 
-abbrev pub reference_at : Shelf → ℕ → Text
-reference_at s i = get_or s.references i []
+abbrev pub target_at : Shelf → ℕ → Text
+target_at s i = get_or s.targets i []
 
 -- the constant that it loads, where it loads one
 abbrev pub constant_of : Shelf → Packed → Val
@@ -104,10 +104,10 @@ unpacked s (packed.PopJumpIfFalse skip) = instruction.PopJumpIfFalse skip
 unpacked s (packed.JumpIfFalseOrPop skip) = instruction.JumpIfFalseOrPop skip
 unpacked s (packed.JumpIfTrueOrPop skip) = instruction.JumpIfTrueOrPop skip
 unpacked s (packed.TakeBlock name span) = instruction.TakeBlock (name_at s name) (span_at s span)
-unpacked s (packed.TakeInclude reference span) =
-    instruction.TakeInclude (reference_at s reference) (span_at s span)
-unpacked s (packed.TakeComponent has_body reference keys span) =
-    instruction.TakeComponent (reference_at s reference) (get_or s.keys keys []) has_body
+unpacked s (packed.TakeInclude target span) =
+    instruction.TakeInclude (target_at s target) (span_at s span)
+unpacked s (packed.TakeComponent has_body target keys span) =
+    instruction.TakeComponent (target_at s target) (get_or s.keys keys []) has_body
     (span_at s span)
 unpacked s (packed.TakeAbove span arguments) = instruction.TakeAbove arguments (span_at s span)
 unpacked s (packed.ApplyFilter call span) =
@@ -157,10 +157,9 @@ Within s (packed.PopJumpIfFalse skip) = Unit {0}
 Within s (packed.JumpIfFalseOrPop skip) = Unit {0}
 Within s (packed.JumpIfTrueOrPop skip) = Unit {0}
 Within s (packed.TakeBlock name span) = (name < length s.names) × (span < length s.spans)
-Within s (packed.TakeInclude reference span) =
-    (reference < length s.references) × (span < length s.spans)
-Within s (packed.TakeComponent has_body reference keys span) =
-    (reference < length s.references) × (keys < length s.keys) × (span < length s.spans)
+Within s (packed.TakeInclude target span) = (target < length s.targets) × (span < length s.spans)
+Within s (packed.TakeComponent has_body target keys span) =
+    (target < length s.targets) × (keys < length s.keys) × (span < length s.spans)
 Within s (packed.TakeAbove span arguments) = span < length s.spans
 Within s (packed.ApplyFilter call span) = (call < length s.calls) × (span < length s.spans)
 Within s (packed.ApplyTest call span) = (call < length s.calls) × (span < length s.spans)
@@ -180,7 +179,7 @@ Grows s t =
     × (Longer s.keys t.keys
     × (Longer s.spans t.spans
     × (Longer s.loops t.loops
-    × (Longer s.calls t.calls × Longer s.references t.references)))))))
+    × (Longer s.calls t.calls × Longer s.targets t.targets)))))))
 
 -- this element stands there
 abbrev pub IsAt : {X : Type 0} → List X → ℕ → X → Type 0

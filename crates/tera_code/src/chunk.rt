@@ -5,6 +5,7 @@ ghost use Rattle.tera_code.specs.Called.{callee_of, called_by};
 ghost use Rattle.tera_code.specs.Code.{lengthened, spreads_of};
 ghost use Rattle.tera_code.specs.declared.instruction.Instruction.TheVariants as instruction;
 ghost use Rattle.tera_code.specs.Filling.{filled};
+ghost use Rattle.tera_code.specs.Targets.{target_in, target_of};
 ghost use Rattle.tera_syntax_tree.specs.Prelude.{items_of};
 
 use crate::callee::Callee;
@@ -13,10 +14,10 @@ use crate::instruction::Instruction;
 use crate::lent_instruction::LentInstruction;
 use crate::lent_parts::Text;
 use crate::packed::{Packed, Tables};
-use crate::reference::Reference;
 use crate::room::Room;
 use crate::seen::Seen;
 use crate::steps::Steps;
+use crate::target::Target;
 use std::alloc::{AllocError, Global};
 use std::marker::Model;
 use std::sync::ledger::Ledger;
@@ -71,11 +72,6 @@ impl Chunk {
         ensures { result.now ≡ self.now.file }
     {
         self.file.as_str()
-    }
-
-    /// What its code takes that stands elsewhere, each at its number.
-    pub fn references(&self) -> &[Reference] {
-        self.tables.references.as_slice()
     }
 
     /// The names of code that may look them up often, each once or more: it has a loop, or many instructions for each
@@ -212,6 +208,15 @@ impl Chunk {
             ≡ option_and_then called_by (slice_get self.now.code position) }
     {
         self.lent(position)?.callee()
+    }
+
+    /// What the instruction at this position takes that stands elsewhere; none where it takes nothing, or where there is none. The
+    /// instruction is not handed out, so that it isn't counted.
+    pub fn target_at(&self, position: usize) -> Option<Target<'_>>
+        ensures { option_map target_of result
+            ≡ option_and_then target_in (slice_get self.now.code position) }
+    {
+        self.lent(position)?.target()
     }
 
     // The instruction at this position, which is not counted.

@@ -9,12 +9,14 @@ ghost use Rattle.tera_code.specs.Asked.{included_template, taken_block, taken_ab
 ghost use Rattle.tera_code.specs.Asked.{is_write_top, is_next_turn, uses_top};
 ghost use Rattle.tera_code.specs.Called.{callee_of, called_by};
 ghost use Rattle.tera_code.specs.Printing.{puts};
+ghost use Rattle.tera_code.specs.Targets.{target_in, target_of};
 
 use crate::callee::Callee;
 use crate::constant::Constant;
 use crate::instruction::Instruction;
 use crate::lent_parts::{Keys, LentName, Text};
 use crate::packed::{Packed, Tables};
+use crate::target::Target;
 use std::marker::Model;
 use tera_syntax_tree::BinaryOperator;
 use tera_values::{Name, Span};
@@ -207,15 +209,15 @@ impl<'a> LentInstruction<'a> {
         }
     }
 
-    /// The template that it includes, by the reference to it.
+    /// The template that it includes.
     #[inline(always)]
-    pub fn as_include(&self) -> Option<(LentName<'a>, Span)>
-        ensures means { IfSome result (λ p. self.now ≡ instruction.TakeInclude p.0 p.1) }
-        ensures exact { option_map (λ p. (p.0, p.1)) result ≡ included_template self.now }
+    pub fn as_include(&self) -> Option<(&'a Name, Span)>
+        ensures means { IfSome result (λ p. self.now ≡ instruction.TakeInclude p.0.now p.1) }
+        ensures exact { option_map (λ p. (p.0.now, p.1)) result ≡ included_template self.now }
     {
         match *self.packed {
-            Packed::TakeInclude { reference, span } => {
-                Some((self.tables.reference(reference), self.tables.span(span)))
+            Packed::TakeInclude { target, span } => {
+                Some((self.tables.target(target), self.tables.span(span)))
             }
             _ => None,
         }
@@ -247,20 +249,22 @@ impl<'a> LentInstruction<'a> {
         }
     }
 
-    /// The component that it calls: the reference to it, the keys of what it is given, and whether it has a body.
+    /// The component that it calls: its name, the keys of what it is given, and whether it has a body.
     #[inline(always)]
-    pub fn as_component(&self) -> Option<(LentName<'a>, Keys<'a>, bool, Span)>
-        ensures means { IfSome result (λ p. self.now ≡ instruction.TakeComponent p.0 p.1 p.2 p.3) }
-        ensures exact { option_map (λ p. (p.0, p.1, p.2, p.3)) result ≡ taken_component self.now }
+    pub fn as_component(&self) -> Option<(&'a Name, Keys<'a>, bool, Span)>
+        ensures means { IfSome result
+            (λ p. self.now ≡ instruction.TakeComponent p.0.now p.1 p.2 p.3) }
+        ensures exact { option_map (λ p. (p.0.now, p.1, p.2, p.3)) result
+            ≡ taken_component self.now }
     {
         match *self.packed {
             Packed::TakeComponent {
                 has_body,
-                reference,
+                target,
                 keys,
                 span,
             } => Some((
-                self.tables.reference(reference),
+                self.tables.target(target),
                 self.tables.lent_keys(keys),
                 has_body,
                 self.tables.span(span),
@@ -343,9 +347,23 @@ impl<'a> LentInstruction<'a> {
             Packed::ApplyFilter { call, .. } => Some(Callee::Filter(self.tables.called(call))),
             Packed::ApplyTest { call, .. } => Some(Callee::Test(self.tables.called(call))),
             Packed::CallFunction { call, .. } => Some(Callee::Function(self.tables.called(call))),
-            Packed::TakeComponent { reference, .. } => {
-                let name = self.tables.reference(reference);
-                Some(Callee::Component(name.as_name().as_str()))
+            Packed::TakeComponent { target, .. } => {
+                Some(Callee::Component(self.tables.target(target).as_str()))
+            }
+            _ => None,
+        }
+    }
+
+    // What it takes that stands elsewhere.
+    pub(crate) fn target(&self) -> Option<Target<'a>>
+        ensures { option_map target_of result ≡ target_in self.now }
+    {
+        match *self.packed {
+            Packed::TakeInclude { target, .. } => {
+                Some(Target::Template(self.tables.target(target)))
+            }
+            Packed::TakeComponent { target, .. } => {
+                Some(Target::Component(self.tables.target(target)))
             }
             _ => None,
         }

@@ -36,11 +36,10 @@ impl<'a> Text<'a> {
     }
 }
 
-/// A name that is bound: what binds it shares it. That of a reference carries its number. A contract sees the name's bytes.
+/// A name that is bound: what binds it shares it. A contract sees the name's bytes.
 #[derive(Drop)]
 pub struct LentName<'a> {
     name: &'a Name,
-    number: usize,
 }
 
 impl<'a> Model for LentName<'a> {
@@ -56,19 +55,7 @@ impl<'a> LentName<'a> {
     pub fn new(name: &'a Name) -> LentName<'a>
         ensures { result ≡ name.now }
     {
-        LentName::numbered(name, 0)
-    }
-
-    /// The same of a reference, which stands at this position among those of its chunk.
-    pub(crate) fn numbered(name: &'a Name, number: usize) -> LentName<'a>
-        ensures { result ≡ name.now }
-    {
-        LentName { name, number }
-    }
-
-    /// Where the reference stands among those of its chunk. That of any other name means nothing, and no contract speaks of it.
-    pub fn number(&self) -> usize {
-        self.number
+        LentName { name }
     }
 
     /// The name itself, where there is one.

@@ -10,7 +10,6 @@ use crate::call_kind::CallKind;
 use crate::constant::{Constant, Kept, small_integer};
 use crate::instruction::Instruction;
 use crate::lent_parts::{Keys, LentName, Names, Spreads};
-use crate::reference::Reference;
 use crate::seen::{SLOTS, Seen};
 use crate::single_forms::{add_spreads, copied};
 use std::alloc::{AllocError, Global};
@@ -110,12 +109,12 @@ pub(crate) enum Packed {
         span: u32,
     },
     TakeInclude {
-        reference: u32,
+        target: u32,
         span: u32,
     },
     TakeComponent {
         has_body: bool,
-        reference: u32,
+        target: u32,
         keys: u32,
         span: u32,
     },
@@ -166,7 +165,8 @@ pub(crate) struct Tables {
     pub(crate) spans: Vec<Span>,
     pub(crate) loops: Vec<LoopNames>,
     pub(crate) calls: Vec<CallNames>,
-    pub(crate) references: Vec<Reference>,
+    // the names of what is taken and stands elsewhere
+    pub(crate) targets: Vec<Name>,
 }
 
 /// A number that instructions hold. More than they can hold is want of memory.
@@ -223,7 +223,7 @@ impl Tables {
             spans: Vec::new(alloc),
             loops: Vec::new(alloc),
             calls: Vec::new(alloc),
-            references: Vec::new(alloc),
+            targets: Vec::new(alloc),
         }
     }
 
@@ -351,26 +351,14 @@ impl Tables {
         Ok(Packed::TakeBlock { name, span })
     }
 
-    /// Puts what is taken and stands elsewhere beside the others, and tells its position.
-    fn add_reference(&mut self, name: &LentName<'_>, is_component: bool) -> Result<u32, AllocError>
-        ensures grows { Grows (shelf_of self.old) (shelf_of self.new) }
-        ensures ok { IfOk result (λ n. IsAt (shelf_of self.new).references n name.now) }
-    {
-        let reference = Reference {
-            name: lacking(name.share())?,
-            is_component,
-        };
-        number(&mut self.references, reference)
-    }
-
     fn take_include(&mut self, name: &LentName<'_>, span: Span) -> Result<Packed, AllocError>
         ensures grows { Grows (shelf_of self.old) (shelf_of self.new) }
         ensures ok { IfOk result
             (λ p. Packs (shelf_of self.new) p (instruction.TakeInclude name.now span)) }
     {
-        let reference = self.add_reference(name, false)?;
+        let target = number(&mut self.targets, lacking(name.share())?)?;
         let span = number(&mut self.spans, span)?;
-        Ok(Packed::TakeInclude { reference, span })
+        Ok(Packed::TakeInclude { target, span })
     }
 
     fn take_component(
@@ -385,13 +373,13 @@ impl Tables {
         ensures ok { IfOk result (λ p. Packs (shelf_of self.new) p
             (instruction.TakeComponent name.now keys.now has_body span)) }
     {
-        let reference = self.add_reference(name, true)?;
+        let target = number(&mut self.targets, lacking(name.share())?)?;
         let keys = copies(alloc, keys.as_slice())?;
         let keys = number(&mut self.keys, keys)?;
         let span = number(&mut self.spans, span)?;
         Ok(Packed::TakeComponent {
             has_body,
-            reference,
+            target,
             keys,
             span,
         })

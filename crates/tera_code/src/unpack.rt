@@ -2,7 +2,7 @@
 ghost use Rattle.std.specs.Prelude.{◌≡◌, ◌<◌, ◌≤◌, ◌-◌, [], get_or, length, take, drop, string_bytes};
 ghost use Rattle.std.specs.Str.{IsCharBoundary};
 ghost use Rattle.tera_code.specs.Calls.{call_of};
-ghost use Rattle.tera_code.specs.Packed.{Within, shelf_of, span_at, name_at, call_at, loop_at, reference_at, constant_of, unpacked};
+ghost use Rattle.tera_code.specs.Packed.{Within, shelf_of, span_at, name_at, call_at, loop_at, target_at, constant_of, unpacked};
 
 use crate::call_kind::CallKind;
 use crate::constant::Constant;
@@ -59,12 +59,13 @@ impl Tables {
         LentName::new(&self.calls[number as usize].name)
     }
 
-    /// What is taken and stands elsewhere, by its name, which carries the number.
-    pub(crate) fn reference(&self, number: u32) -> LentName<'_>
-        requires { number < length self.now.references.items }
-        ensures { result ≡ reference_at (shelf_of self.now) number }
+    /// What is taken and stands elsewhere.
+    #[inline(always)]
+    pub(crate) fn target(&self, number: u32) -> &Name
+        requires { number < length self.now.targets.items }
+        ensures { result.now ≡ target_at (shelf_of self.now) number }
     {
-        LentName::numbered(&self.references[number as usize].name, number as usize)
+        &self.targets[number as usize]
     }
 
     /// What a loop calls the keys, if it does, and the values of its items.
@@ -221,17 +222,17 @@ impl Tables {
                 name: LentName::new(self.whole_name(name)),
                 span: self.span(span),
             },
-            Packed::TakeInclude { reference, span } => Instruction::TakeInclude {
-                name: self.reference(reference),
+            Packed::TakeInclude { target, span } => Instruction::TakeInclude {
+                name: LentName::new(self.target(target)),
                 span: self.span(span),
             },
             Packed::TakeComponent {
                 has_body,
-                reference,
+                target,
                 keys,
                 span,
             } => Instruction::TakeComponent {
-                name: self.reference(reference),
+                name: LentName::new(self.target(target)),
                 keys: self.lent_keys(keys),
                 has_body,
                 span: self.span(span),

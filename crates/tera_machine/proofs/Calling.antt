@@ -1,9 +1,8 @@
 -- Components that are called follow the pure machine.
-use Rattle.std.proofs.Common.{◌≡◌, ℕ, suc, ◌+◌, ◌<◌, ◌≤◌, Bool, true, false, List, [], ◌∷◌, length, drop, get_or, Option, Some, None, Result, Ok, Err, refl, sym, ap, ap₂, ◌∙◌, subst}
+use Rattle.std.proofs.Common.{◌≡◌, suc, ◌<◌, ◌≤◌, Bool, true, false, List, [], ◌∷◌, Option, Some, None, Result, Ok, Err, refl, sym, ap, ap₂, ◌∙◌, subst}
 use Rattle.std.specs.Prelude.{nat_lt, option_map, map, bytes_eq, if◌then◌else◌}
 use Rattle.std.specs.Option.{option_or}
 use Rattle.std.proofs.lemmas.Bool.{lt-ltb, le-ltb}
-use Rattle.std.proofs.lemmas.List.{drop_more}
 use Rattle.tera_errors.specs.Site.{Name}
 use Rattle.tera_errors.specs.declared.span.Span.{Span}
 use Rattle.tera_errors.specs.Fault.{Fault, message}
@@ -17,14 +16,13 @@ use Rattle.tera_state.specs.Scope.{Variables, nothing_set, look_implicit, in_com
 use Rattle.tera_state.specs.Scopes.{variables_of, around_of}
 use Rattle.tera_components.specs.Context.{component_context}
 use Rattle.tera_components.specs.Definition.{Definition, definition_of, or_message}
-use Rattle.tera_meaning.specs.Registry.{Registry}
-use Rattle.tera_meaning.specs.Components.{Component, component_named, component, one_off_name}
+use Rattle.tera_meaning.specs.Components.{Component, component_named, one_off_name}
 use Rattle.tera_meaning.specs.Run.{Request, AComponent}
 use Rattle.tera_meaning.specs.Whole.{World, Place, Refuses, Takes, component_at, place_of_component, takes_context, takes_component, fault_in, way}
 use Rattle.tera_code.specs.Listing.{Listing}
-use Rattle.tera_registry.specs.Components.{kept_of, kept_as}
-use Rattle.tera_registry.specs.declared.components.Component.{Component as Kept}
-use Rattle.tera_registry.specs.Templates.{with_templates, definers_of, IsKept, IsDefined}
+use Rattle.tera_registry.specs.Components.{kept_as, first_kept}
+use Rattle.tera_registry.specs.HandedOut.{code_of, found_of}
+use Rattle.tera_registry.specs.Templates.{definers_of, IsKept, IsDefined}
 use Rattle.tera_registry.specs.declared.templates.Defined.{Defined}
 use Rattle.tera_registry.specs.declared.templates.FoundTemplate.{FoundTemplate}
 use Rattle.tera_machine.specs.declared.bodies.Outer.{Outer}
@@ -34,11 +32,11 @@ use Rattle.tera_machine.specs.declared.configuration.Configuration.{Configuratio
 use Rattle.tera_machine.specs.declared.machine.VirtualMachine.{VirtualMachine}
 use Rattle.tera_machine.specs.Config.{config_of}
 use Rattle.tera_machine.specs.Flow.{Use}
-use Rattle.tera_machine.specs.Included.{names_in}
-use Rattle.tera_machine.specs.Subject.{IsLinked, kept_beside, template_of, place_at}
+use Rattle.tera_machine.specs.Included.{names_in, names_opened}
+use Rattle.tera_machine.specs.Subject.{IsLinked, IsOf, kept_beside, template_of, place_at}
 use Rattle.tera_machine.specs.Bodies.{Entered}
 use Rattle.tera_machine.specs.Apart.{Begins}
-use Rattle.tera_machine.specs.Components.{kept_meant, found_of, first_kept, IsCalled, Calls}
+use Rattle.tera_machine.specs.Components.{kept_meant, IsCalled, Calls}
 
 -- Which component a name leads to.
 
@@ -50,11 +48,6 @@ first_meant file name (d ∷ ds) = by (bytes_eq name d.0.name) (first_meant file
     by : (b : Bool) → first_kept name (map (kept_as file) ds) ≡ option_map kept_meant (component_named file name ds) → (if b then Some (kept_as file d) else first_kept name (map (kept_as file) ds)) ≡ option_map kept_meant (if b then Some (record { file = file; signature = d.0; body = d.1 }) else component_named file name ds)
     by true rest = refl
     by false rest = rest
-
--- one of those that are kept, and those behind it
-pub kept_step : (name : Name) (cs : List Kept) (i : ℕ) (c : Kept) → i < length cs → c ≡ get_or cs i c → first_kept name (map kept_of (drop i cs)) ≡ (if bytes_eq name c.definition.name then Some (kept_of c) else first_kept name (map kept_of (drop (i + 1) cs)))
-kept_step name cs i c l at =
-    ap (λ ks. first_kept name (map kept_of ks)) (drop_more cs i c l ∙ ap (λ k. k ∷ drop (i + 1) cs) (sym at))
 
 abbrev given_or : Definition → Option (Definition × Listing) → Definition
 given_or other None = other
@@ -75,15 +68,11 @@ defined_by (Some c) None e = absurd (no_none e)
     no_none : None ≡ Some (kept_meant c) → ⊥
     no_none e = cc
 defined_by (Some c) (Some d) e =
-    record { given = ap (given_or d.definition.now) e; code = ap (code_or d.chunk.now) e }
+    record { given = ap (given_or d.definition.now) e; code = ap (code_or (code_of d.body)) e }
 
 pub defined_beside : {O : Type 0} (m : VirtualMachine O) (w : World) (name : Name) (r : Option Defined) → IsLinked m w → option_map found_of r ≡ first_kept name (kept_beside m.beside) → IsDefined (component_named one_off_name name w.beside) r
 defined_beside m w name r linked e =
-    defined_by (component_named one_off_name name w.beside) r (e ∙ ap (first_kept name) linked.1.1 ∙ first_meant one_off_name name w.beside)
-
-pub defined_in : {O : Type 0} (m : VirtualMachine O) (w : World) (name text : Name) (r : Option Defined) → IsLinked m w → text ≡ name → ((s : Registry) → IsDefined (component (with_templates s m.templates.now) text) r) → IsDefined (component w.registry name) r
-defined_in m w name text r linked e h =
-    subst (λ n. IsDefined (component w.registry n) r) e (subst (λ s. IsDefined (component s text) r) linked.1.0 (h w.registry))
+    defined_by (component_named one_off_name name w.beside) r (e ∙ ap (first_kept name) linked.components ∙ first_meant one_off_name name w.beside)
 
 pub defined_first : (a b : Option Component) (d : Defined) → IsDefined a (Some d) → IsDefined (option_or a b) (Some d)
 defined_first None b d h = absurd h
@@ -161,28 +150,29 @@ module _ (w : World) (p : Place) (name : Name) (given : List (Name × Val)) (bod
       too_deep told l h = told_refused told message (deep false (le-ltb p.depth 20 l)) h
 
       -- and else it runs
-      pub is_called : (called : Called) → p.depth < 20 → called.context ≡ context → called.body.chunk.now ≡ found.chunk.now → called.depth ≡ suc p.depth → IsCalled w p q v called
-      is_called called l x y z = record {
+      pub is_called : (called : Called) → p.depth < 20 → called.context ≡ context → called.body ≡ found.body → called.depth ≡ suc p.depth → IsOf w.registry found.body → IsCalled w p q v called
+      is_called called l x y z of = record {
         file = c.file;
         body = c.body;
         takes = deep true (lt-ltb p.depth 20 l) ∙ ap (λ k. Takes (place_of_component (in_component k p.around v) p.autoescape (suc p.depth) c.file) nothing_set c.body) (sym x);
-        code = y ∙ kept.code;
+        code = ap code_of y ∙ kept.code;
+        linked = subst (IsOf w.registry) (sym y) of;
         depth = z;
       }
 
 -- A component's body that is taken.
 
 module _ (w : World) {O : Type 0} (m : VirtualMachine O) (file : Name) (q : Request) (u : Use) (b0 : OpenBlocks) (c0 : Configuration) where
-  module _ {called : Called} (is : IsCalled w (place_at m file b0 c0) q (config_of c0).run.vars called) (m1 : VirtualMachine O) (b1 : OpenBlocks) {outer : Outer} {c1 : Configuration} (template : m1.template ≡ None) (escapes : m1.autoescape ≡ m.autoescape) (depth : m1.depth ≡ called.depth) (names : b1.names ≡ []) (above : definers_of b1.above ≡ []) (included : names_in b1.included ≡ []) (begins : Begins (in_component called.context (around_of c0.scopes) (variables_of c0.scopes)) c0 outer c1) where
-    same_place : place_of_component (in_component called.context (around_of c0.scopes) (variables_of c0.scopes)) m.autoescape (suc m.depth) is.file ≡ place_at m1 called.body.chunk.now.file b1 c1
+  module _ {called : Called} (is : IsCalled w (place_at m file b0 c0) q (config_of c0).run.vars called) (m1 : VirtualMachine O) (b1 : OpenBlocks) {outer : Outer} {c1 : Configuration} (template : m1.template ≡ None) (escapes : m1.autoescape ≡ m.autoescape) (depth : m1.depth ≡ called.depth) (names : names_opened b1.opened.inner ≡ []) (above : definers_of b1.above ≡ []) (included : names_in b1.included.inner ≡ []) (begins : Begins (in_component called.context (around_of c0.scopes) (variables_of c0.scopes)) c0 outer c1) where
+    same_place : place_of_component (in_component called.context (around_of c0.scopes) (variables_of c0.scopes)) m.autoescape (suc m.depth) is.file ≡ place_at m1 (code_of called.body).file b1 c1
     same_place =
         let x = in_component called.context (around_of c0.scopes) (variables_of c0.scopes) in
         ap₂ (λ f d. record { template = None; file = f; around = x; autoescape = m.autoescape; depth = d; included = []; opened = []; above = [] }) (sym (ap (λ (l : Listing). l.file) is.code)) (sym (depth ∙ is.depth))
-        ∙ ap₂ (λ o a. record { template = o; file = called.body.chunk.now.file; around = a; autoescape = m.autoescape; depth = m1.depth; included = []; opened = []; above = [] }) (sym (ap (λ o. option_map (λ (f : FoundTemplate). f.name.now) o) template)) (sym begins.around)
-        ∙ ap₂ (λ e i. record { template = template_of m1; file = called.body.chunk.now.file; around = around_of c1.scopes; autoescape = e; depth = m1.depth; included = i; opened = []; above = [] }) (sym escapes) (sym included)
-        ∙ ap₂ (λ ns ds. record { template = template_of m1; file = called.body.chunk.now.file; around = around_of c1.scopes; autoescape = m1.autoescape; depth = m1.depth; included = names_in b1.included; opened = ns; above = ds }) (sym names) (sym above)
+        ∙ ap₂ (λ o a. record { template = o; file = (code_of called.body).file; around = a; autoescape = m.autoescape; depth = m1.depth; included = []; opened = []; above = [] }) (sym (ap (λ o. option_map (λ (f : FoundTemplate). f.name.now) o) template)) (sym begins.around)
+        ∙ ap₂ (λ e i. record { template = template_of m1; file = (code_of called.body).file; around = around_of c1.scopes; autoescape = e; depth = m1.depth; included = i; opened = []; above = [] }) (sym escapes) (sym included)
+        ∙ ap₂ (λ ns ds. record { template = template_of m1; file = (code_of called.body).file; around = around_of c1.scopes; autoescape = m1.autoescape; depth = m1.depth; included = names_in b1.included.inner; opened = ns; above = ds }) (sym names) (sym above)
 
-    pub call_entered : Entered w (place_at m file b0 c0) q (config_of c0) (place_at m1 called.body.chunk.now.file b1 c1) called.body.chunk.now.code (config_of c1)
+    pub call_entered : Entered w (place_at m file b0 c0) q (config_of c0) (place_at m1 (code_of called.body).file b1 c1) (code_of called.body).code (config_of c1)
     call_entered = record {
       vars = nothing_set;
       body = is.body;

@@ -12,7 +12,8 @@ pub mod Rejoining
 pub mod Including
 pub mod Calling
 pub mod Ways
-pub mod Opened
+pub mod Numbers
+pub mod Heights
 pub mod Looping
 pub mod Literals
 pub mod Places

@@ -1,46 +1,55 @@
 -- The whole run, with the bodies that wait.
 use Rattle.std.proofs.Common.{◌≡◌, ◌≢◌, ℕ, suc, ◌+◌, ◌-◌, ◌^◌, ◌<◌, ◌≤◌, List, [], ◌∷◌, length, Some, None, Result, Err, refl, sym, ap, ◌∙◌, subst, append-nil, arith}
-use Rattle.std.specs.Prelude.{slice_get}
+use Rattle.std.specs.Prelude.{option_and_then, slice_get}
 use Rattle.tera_errors.specs.Fault.{Fault}
 use Rattle.tera_errors.specs.Answer.{SeenError}
 use Rattle.tera_state.specs.Scopes.{around_of}
 use Rattle.tera_objects.specs.Engine.{Engine}
 use Rattle.tera_meaning.specs.Here.{Here}
 use Rattle.tera_meaning.specs.Run.{Request}
-use Rattle.tera_meaning.specs.Whole.{World, Place, here_at}
+use Rattle.tera_meaning.specs.Whole.{World, Place, Refuses, here_at, way}
 use Rattle.tera_code.specs.Code.{Code}
 use Rattle.tera_code.specs.Listing.{Listing}
+use Rattle.tera_code.specs.Targets.{Target, target_in}
+use Rattle.tera_registry.specs.HandedOut.{code_of}
+use Rattle.tera_registry.specs.Templates.{AreAmong}
+use Rattle.tera_registry.specs.declared.body.Body.{Body}
+use Rattle.tera_registry.specs.declared.templates.FoundTemplate.{FoundTemplate}
 use Rattle.tera_code.specs.declared.instruction.Instruction.{Instruction}
+use Rattle.tera_machine.specs.declared.asked.Request as requested
+use Rattle.tera_machine.specs.declared.asked.Request.TheVariants as request
+use Rattle.tera_machine.specs.declared.blocks.OpenBlock.{OpenBlock}
 use Rattle.tera_machine.specs.declared.blocks.OpenBlocks.{OpenBlocks}
 use Rattle.tera_machine.specs.declared.bodies.Back.{Back}
 use Rattle.tera_machine.specs.declared.bodies.Back.TheVariants as back
 use Rattle.tera_machine.specs.declared.bodies.Behind.{Behind}
-use Rattle.tera_machine.specs.declared.bodies.Body.{Body}
 use Rattle.tera_machine.specs.declared.bodies.Waiting.{Waiting}
 use Rattle.tera_machine.specs.declared.configuration.Configuration.{Configuration}
 use Rattle.tera_machine.specs.declared.machine.Flow as declared
 use Rattle.tera_machine.specs.declared.machine.Flow.TheVariants as flow
 use Rattle.tera_machine.specs.declared.machine.VirtualMachine.{VirtualMachine}
 use Rattle.tera_machine.specs.Config.{Config, config_of}
-use Rattle.tera_machine.specs.Flow.{Use, Ask, flow_of}
+use Rattle.tera_machine.specs.Flow.{Use, Ask, request_of, flow_of}
 use Rattle.tera_machine.specs.Did.{Did, Goes, Sticks}
 use Rattle.tera_machine.specs.Effect.{effect, Effected, IsSmall, beneath}
 use Rattle.tera_machine.specs.Exec.{End, Finished, Broken, left, Ends, EndsWithin, BodyEnds, Ran}
 use Rattle.tera_machine.specs.Advance.{Advance, BodyWithin}
-use Rattle.tera_machine.specs.Bodies.{Stays}
-use Rattle.tera_machine.specs.Subject.{IsLinked, engine_of, here_of, place_at}
+use Rattle.tera_machine.specs.Bodies.{Entered, Stays}
+use Rattle.tera_machine.specs.OpenThings.{Nested}
+use Rattle.tera_machine.specs.Subject.{AreFrom, AreNumbered, IsLinked, IsOf, Belong, template_of, engine_of, here_of, place_at}
 use Rattle.tera_machine.specs.Together.{done}
 use Rattle.tera_machine.specs.Paths.{Stands, start_at}
-use Rattle.tera_machine.specs.Open.{AtAsk, Beginning, Came, HasOuter, Resumes, Running, Taken, TakesBody, Waits, machine_by, machine_again}
+use Rattle.tera_machine.specs.Open.{AtAsk, Beginning, Came, HasOuter, PutsBack, Resumes, Running, Taken, TakesBefore, TakesRequested, TakesBody, Waits, machine_by, machine_again}
 use Rattle.tera_machine.proofs.Noting.{noted_none}
 use Rattle.tera_machine.proofs.Runs.{here_is, starts, one_left, not_stuck, small, went_on, skipped, skip_within, went_to, place_within, went_out, finished, effect_failed, at_request}
 use Rattle.tera_machine.proofs.Together.{Last, last_of}
+use Rattle.tera_machine.proofs.Still.{Seeks, seeks}
 use Rattle.tera_machine.proofs.Taking.{body_within, came_back, body_failed, refused, inner_within, can_leave, body_broke}
 use Rattle.tera_machine.proofs.Took.{place_same, stays_then, did_still, at_place, ends_at, no_captures}
 
 pub stays_here : (b : OpenBlocks) (c : Configuration) → Stays b c b c
 stays_here b c = record {
-  names = refl;
+  opened = refl;
   above = refl;
   included = refl;
   around = refl;
@@ -66,8 +75,8 @@ all_broke most w o (r ∷ rs) m code b c n f k l (y, rest) x =
     let before = y.asks.progress.counted in
     let le : y.first ≤ k = omega (arith, l, counted, before) in
     let m' = machine_again r m in
-    let same = place_same m' r.body.chunk.now.file r.body.chunk.now.file refl y.stays in
-    all_broke most w o rs m' r.body.chunk.now y.began y.start y.first f k le rest (body_failed y.asks f k l (ends_at same (body_broke y.enters f (k - n) x)))
+    let same = place_same m' (code_of r.body).file (code_of r.body).file refl y.stays in
+    all_broke most w o rs m' (code_of r.body) y.began y.start y.first f k le rest (body_failed y.asks f k l (ends_at same (body_broke y.enters f (k - n) x)))
 
 -- want of memory says nothing
 pub lacked_all : {O : Type 0} (w : World) (o : Beginning O) (r : SeenError) (c : Config) (n : ℕ) → r ≡ None → WholeRan w o (Err r) c n
@@ -118,7 +127,7 @@ module _ {O : Type 0} (engine : O → Engine) {most : ℕ} {w : World} {o : Begi
     abbrev did : Did
     did = done here code.code (suc (n2 - n1)) ip (config_of c)
 
-    last : Last most w place code.code (config_of g.start) g.first at n2 (config_of c) did
+    pub last : Last most w place code.code (config_of g.start) g.first at n2 (config_of c) did
     last = last_of g.progress same_here one stands.counted stands.there stands.led
 
     -- they are counted, and there was room for them
@@ -182,32 +191,44 @@ module _ {O : Type 0} (engine : O → Engine) {most : ℕ} {w : World} {o : Begi
         same_place : place_at m code.file b c2 ≡ place
         same_place = place_same m code.file code.file refl still
 
-        pub take_broke : (m1 : VirtualMachine O) (b1 : OpenBlocks) (rs1 : List Waiting) (r : SeenError) (c3 : Configuration) → TakesBody w m code (at + 1) q u b c2 rs m1 (Err r) b1 c3 rs1 → WholeRan w o (Err r) (config_of c3) n2
-        take_broke m1 b1 rs1 None c3 h = tt
-        take_broke m1 b1 rs1 (Some k) c3 h =
-            let counted = last.progress.counted in
-            let l : g.first ≤ n2 = omega (arith, counted, last.count) in
-            let z : n2 - n2 ≡ 0 = omega arith in
-            let here : n2 ≤ n2 = omega arith in
-            all_broke most w o rs m code g.began g.start g.first k n2 l g.came (body_failed asked k n2 here (ends_at same_place (refused k (n2 - n2) z h)))
+        -- the body in which it stands is this one
+        module _ (own : Body) (is : code ≡ code_of own) where
+          takes_before : {target : Target} → (Seeks (target_in last.instruction) q → target_in last.instruction ≡ Some target) → TakesBefore own (at + 1) target
+          takes_before {target} names =
+              let sought = seeks (here_at w place) (at + 1) last.instruction last.config (config_of c2) q u (last_did ∙ ap (Goes (config_of c2)) asks) in
+              record {
+                at = at;
+                is = refl;
+                takes = subst (λ (l : Listing). option_and_then target_in (slice_get l.code at) ≡ Some target) is (ap (option_and_then target_in) last.found ∙ names sought);
+              }
 
-        -- it is entered, and this one waits
-        pub goes_in : {next : ℕ} {m1 : VirtualMachine O} {body : Body} {b1 : OpenBlocks} {c3 : Configuration} {rs1 : List Waiting} → Taken w m code next q u b c2 rs m1 body b1 c3 rs1 → next ≡ at + 1 → Running most w o rs1 m1 body.chunk.now 0 b1 c3 n2
-        goes_in {next} {m1} {body} {b1} {c3} {rs1} t behind =
-            subst (λ rs. Running most w o rs m1 body.chunk.now 0 b1 c3 n2) (sym t.is) (record {
-              counted = let l = g.counted in let k = few.0 in omega (arith, l, k);
-              bounded = λ h. few.1;
-              began = b1;
-              start = c3;
-              first = n2;
-              came = came_so o rs t.machine t.code (waits, g.came);
-              linked = t.linked;
-              objects = t.objects ∙ g.objects;
-              progress = starts (inner_within t.enters (at_place same_place (body_within asked)));
-              stays = stays_here b1 c3;
-            })
-          where
-            waits : Waits most w m code t.waits (place_at m1 body.chunk.now.file b1 c3) body.chunk.now.code b1 c3 n2
+          -- it is what that takes
+          pub takes_requested : (r : requested.Request) → q ≡ request_of r → TakesRequested own (at + 1) r
+          takes_requested (request.Block name span) e = tt
+          takes_requested (request.Above span) e = tt
+          takes_requested (request.Include name span) e = takes_before (λ sought. subst (λ q. Seeks (target_in last.instruction) q) e sought)
+          takes_requested (request.Component a) e = takes_before (λ sought. subst (λ q. Seeks (target_in last.instruction) q) e sought)
+
+          pub take_broke : (m1 : VirtualMachine O) (b1 : OpenBlocks) (rs1 : List Waiting) (r : SeenError) (c3 : Configuration) → TakesBody w m own (at + 1) q u b c2 rs m1 (Err r) b1 c3 rs1 → WholeRan w o (Err r) (config_of c3) n2
+          take_broke m1 b1 rs1 None c3 h = tt
+          take_broke m1 b1 rs1 (Some k) c3 h =
+              let counted = last.progress.counted in
+              let l : g.first ≤ n2 = omega (arith, counted, last.count) in
+              let z : n2 - n2 ≡ 0 = omega arith in
+              let here : n2 ≤ n2 = omega arith in
+              let refuses : way w (place_at m code.file b c2) q (config_of c2).run.vars ≡ Refuses k = subst (λ (l : Listing). way w (place_at m l.file b c2) q (config_of c2).run.vars ≡ Refuses k) (sym is) h in
+              all_broke most w o rs m code g.began g.start g.first k n2 l g.came (body_failed asked k n2 here (ends_at same_place (refused k (n2 - n2) z refuses)))
+
+          -- it is entered, and this one waits
+          module _ {next : ℕ} {m1 : VirtualMachine O} {body : Body} {b1 : OpenBlocks} {c3 : Configuration} {rs1 : List Waiting} (t : Taken w m own next q u b c2 rs m1 body b1 c3 rs1) (behind : next ≡ at + 1) (belong : Belong w m own b) where
+            abbrev inner : Place
+            inner = place_at m1 (code_of body).file b1 c3
+
+            enters : Entered w (place_at m code.file b c2) q (config_of c2) inner (code_of body).code (config_of c3)
+            enters =
+                subst (λ (l : Listing). Entered w (place_at m l.file b c2) q (config_of c2) inner (code_of body).code (config_of c3)) (sym is) t.enters
+
+            abbrev waits : Waits most w m code t.waits inner (code_of body).code b1 c3 n2
             waits = record {
               began = g.began;
               start = g.start;
@@ -222,11 +243,27 @@ module _ {O : Type 0} (engine : O → Engine) {most : ℕ} {w : World} {o : Begi
               use' = u;
               asks = asked;
               stays = still;
-              enters = t.enters;
-              keeps = t.keeps;
+              enters = enters;
+              keeps = subst (λ (l : Listing). PutsBack w (place_at m l.file b c2) q u b c2 t.waits inner (code_of body).code b1 c3) (sym is) t.keeps;
               linked = g.linked;
+              belong = subst (λ y. Belong w m y b) (sym t.around) belong;
               next = t.at ∙ behind;
             }
+
+            pub goes_in : Running most w o rs1 m1 (code_of body) 0 b1 c3 n2
+            goes_in =
+                subst (λ rs. Running most w o rs m1 (code_of body) 0 b1 c3 n2) (sym t.is) (record {
+                  counted = let l = g.counted in let k = few.0 in omega (arith, l, k);
+                  bounded = λ h. few.1;
+                  began = b1;
+                  start = c3;
+                  first = n2;
+                  came = came_so o rs t.machine (ap code_of t.around ∙ sym is) (waits, g.came);
+                  linked = t.linked;
+                  objects = t.objects ∙ g.objects;
+                  progress = starts (inner_within enters (at_place same_place (body_within asked)));
+                  stays = stays_here b1 c3;
+                })
 
 same_objects : {O : Type 0} (b : Back) (m : VirtualMachine O) → (machine_by b m).objects.now ≡ m.objects.now
 same_objects (back.Taken a) m = refl
@@ -257,11 +294,11 @@ module _ {O : Type 0} {most : ℕ} {w : World} {o : Beginning O} {rs : List Wait
     pub all_stays : Stays o.blocks o.configuration b c
     all_stays = subst (λ (o : Beginning O). Stays o.blocks o.configuration b c) (sym began) g.stays
 
-  module _ {r : Waiting} (x : Waits most w (machine_again r m) r.body.chunk.now r (place_at m code.file g.began g.start) code.code g.began g.start g.first) where
-    around_same : place_at (machine_again r m) r.body.chunk.now.file x.blocks x.configuration ≡ place_at (machine_again r m) r.body.chunk.now.file x.began x.start
-    around_same = place_same (machine_again r m) r.body.chunk.now.file r.body.chunk.now.file refl x.stays
+  module _ {r : Waiting} (x : Waits most w (machine_again r m) (code_of r.body) r (place_at m code.file g.began g.start) code.code g.began g.start g.first) where
+    around_same : place_at (machine_again r m) (code_of r.body).file x.blocks x.configuration ≡ place_at (machine_again r m) (code_of r.body).file x.began x.start
+    around_same = place_same (machine_again r m) (code_of r.body).file (code_of r.body).file refl x.stays
 
-    may : BodyWithin w (place_at (machine_again r m) r.body.chunk.now.file x.blocks x.configuration) x.request x.use' (config_of x.configuration) (most - g.first)
+    may : BodyWithin w (place_at (machine_again r m) (code_of r.body).file x.blocks x.configuration) x.request x.use' (config_of x.configuration) (most - g.first)
     may = at_place around_same (body_within x.asks)
 
     may_end : left x.request x.use' (config_of x.configuration) (config_of c) ≢ None
@@ -273,8 +310,8 @@ module _ {O : Type 0} {most : ℕ} {w : World} {o : Beginning O} {rs : List Wait
         λ e. may_end (no_captures (config_of c).loops (config_of c).captures x.request x.use' (config_of x.configuration) (config_of c) e)
 
     -- the body that waited goes on
-    module _ {b4 : OpenBlocks} {c4 : Configuration} (closed : BodyEnds w (place_at (machine_again r m) r.body.chunk.now.file x.blocks x.configuration) x.request x.use' (config_of x.configuration) (Finished (config_of c4) (n2 - g.first)) × Stays x.blocks x.configuration b4 c4) where
-      onward : Advance most w (place_at (machine_again r m) r.body.chunk.now.file x.began x.start) r.body.chunk.now.code (config_of x.start) x.first (x.ip + 1) (config_of c4) n2
+    module _ {b4 : OpenBlocks} {c4 : Configuration} (closed : BodyEnds w (place_at (machine_again r m) (code_of r.body).file x.blocks x.configuration) x.request x.use' (config_of x.configuration) (Finished (config_of c4) (n2 - g.first)) × Stays x.blocks x.configuration b4 c4) where
+      onward : Advance most w (place_at (machine_again r m) (code_of r.body).file x.began x.start) (code_of r.body).code (config_of x.start) x.first (x.ip + 1) (config_of c4) n2
       onward =
           let counted = g.progress.counted in
           let l : g.first ≤ n2 = omega (arith, counted, same) in
@@ -295,25 +332,42 @@ module _ {O : Type 0} {most : ℕ} {w : World} {o : Beginning O} {rs : List Wait
       by [] came = tt
       by (r ∷ rs) came = came.0.keeps.apart b c g.stays
 
-  pub goes_out : {m4 : VirtualMachine O} {behind : Behind} {open4 : List Waiting} {b4 : OpenBlocks} {c4 : Configuration} → Resumes m rs b c behind m4 open4 b4 c4 → Running most w o open4 m4 behind.body.chunk.now behind.at b4 c4 n2
-  goes_out {m4} {behind} {open4} {b4} {c4} t =
-      let r = t.waiting in
-      let came = subst (λ rs. Came most w o rs m code g.began g.start g.first) t.is g.came in
-      let x = came.0 in
-      let closed = x.keeps.closes (most - g.first) (may x) b c (n2 - g.first) g.stays over b4 c4 t.left in
-      let counted = g.counted in
-      subst (λ m'. Running most w o open4 m' behind.body.chunk.now behind.at b4 c4 n2) (sym t.machine)
-      (subst (λ (y : Body). Running most w o open4 (machine_again r m) y.chunk.now behind.at b4 c4 n2) (sym t.body)
-      (subst (λ at. Running most w o open4 (machine_again r m) r.body.chunk.now at b4 c4 n2) (sym (t.at ∙ x.next))
-      (record {
-        counted = omega (arith, counted, same);
-        bounded = λ h. let k = g.bounded h in omega (arith, k, same);
-        began = x.began;
-        start = x.start;
-        first = x.first;
-        came = came.1;
-        linked = x.linked;
-        objects = same_objects r.back m ∙ g.objects;
-        progress = onward x closed;
-        stays = stays_then x.stays closed.1;
-      })))
+  module _ {m4 : VirtualMachine O} {behind : Behind} {open4 : List Waiting} {b4 : OpenBlocks} {c4 : Configuration} (t : Resumes m rs b c behind m4 open4 b4 c4) where
+    abbrev outer : Waiting
+    outer = t.waiting
+
+    came : Came most w o (outer ∷ open4) m code g.began g.start g.first
+    came = subst (λ rs. Came most w o rs m code g.began g.start g.first) t.is g.came
+
+    abbrev x : Waits most w (machine_again outer m) (code_of outer.body) outer (place_at m code.file g.began g.start) code.code g.began g.start g.first
+    x = came.0
+
+    closed : BodyEnds w (place_at (machine_again outer m) (code_of outer.body).file x.blocks x.configuration) x.request x.use' (config_of x.configuration) (Finished (config_of c4) (n2 - g.first)) × Stays x.blocks x.configuration b4 c4
+    closed = x.keeps.closes (most - g.first) (may x) b c (n2 - g.first) g.stays over b4 c4 t.left
+
+    pub belong_again : Belong w m4 behind.body b4
+    belong_again = (
+      subst (IsOf w.registry) (sym t.body) x.belong.0,
+      subst (AreAmong w.registry) (sym closed.1.above) x.belong.1,
+      subst (λ (i : Nested FoundTemplate). AreFrom i.inner w.registry) (sym closed.1.included) x.belong.2,
+      subst (λ m'. AreNumbered w.registry (template_of m') b4.opened.inner) (sym t.machine) (subst (λ (o : Nested OpenBlock). AreNumbered w.registry (template_of (machine_again outer m)) o.inner) (sym closed.1.opened) x.belong.3),
+    )
+
+    pub goes_out : Running most w o open4 m4 (code_of behind.body) behind.at b4 c4 n2
+    goes_out =
+        let counted = g.counted in
+        subst (λ m'. Running most w o open4 m' (code_of behind.body) behind.at b4 c4 n2) (sym t.machine)
+        (subst (λ (y : Body). Running most w o open4 (machine_again outer m) (code_of y) behind.at b4 c4 n2) (sym t.body)
+        (subst (λ at. Running most w o open4 (machine_again outer m) (code_of outer.body) at b4 c4 n2) (sym (t.at ∙ x.next))
+        (record {
+          counted = omega (arith, counted, same);
+          bounded = λ h. let k = g.bounded h in omega (arith, k, same);
+          began = x.began;
+          start = x.start;
+          first = x.first;
+          came = came.1;
+          linked = x.linked;
+          objects = same_objects outer.back m ∙ g.objects;
+          progress = onward x closed;
+          stays = stays_then x.stays closed.1;
+        })))

@@ -75,9 +75,9 @@ module _ {c0 : Configuration} {c1 : Configuration} {inside : Around} {outer : Ou
     same_loops = ap₂ (λ ps tss. loops_at ps tss) begins.places (ap innermost_of coming_back)
 
     -- the body around goes on as it was, where the same is open as before
-    pub apart_stayed : (b0 b4 : OpenBlocks) → b4.names ≡ b0.names → b4.above ≡ b0.above → b4.included ≡ b0.included → Noted b0.wanted [] b4.wanted → Stays b0 c0 b4 c4
-    apart_stayed b0 b4 names above included noted = record {
-      names = names;
+    pub apart_stayed : (b0 b4 : OpenBlocks) → b4.opened ≡ b0.opened → b4.above ≡ b0.above → b4.included ≡ b0.included → Noted b0.wanted [] b4.wanted → Stays b0 c0 b4 c4
+    apart_stayed b0 b4 opened above included noted = record {
+      opened = opened;
       above = above;
       included = included;
       around = same_around;

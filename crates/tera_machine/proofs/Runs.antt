@@ -14,11 +14,10 @@ use Rattle.tera_code.specs.Code.{Code}
 use Rattle.tera_machine.specs.declared.configuration.Configuration.{Configuration}
 use Rattle.tera_machine.specs.declared.machine.VirtualMachine.{VirtualMachine}
 use Rattle.tera_machine.specs.declared.blocks.OpenBlocks.{OpenBlocks}
-use Rattle.tera_machine.specs.declared.asked.Asked.{Asked}
 use Rattle.tera_machine.specs.declared.machine.Flow as declared
 use Rattle.tera_machine.specs.declared.machine.Flow.TheVariants as flow
 use Rattle.tera_machine.specs.Config.{Config}
-use Rattle.tera_machine.specs.Flow.{Use, On, Skip, To, Out, Ask, request_of, use_of, flow_of}
+use Rattle.tera_machine.specs.Flow.{Use, On, Skip, To, Out, Ask, flow_of}
 use Rattle.tera_machine.specs.Did.{Did, Goes, Faults, Sticks}
 use Rattle.tera_machine.specs.Effect.{effect, Effected, IsSmall}
 use Rattle.tera_machine.specs.Exec.{End, Finished, Broken, Stuck, after, within_code, follow, body_by, exec, Within, Ends, EndsWithin, Ran}
@@ -150,10 +149,6 @@ module _ {most : ℕ} {w : World} {place : Place} {code : Code} {c0 : Config} wh
             }
 
         -- at an instruction that takes another body
-        pub at_ask : {c2 : Config} {f : declared.Flow} {a : Asked} → effect here (ip + 1) i c ≡ Goes c2 (flow_of f) → f ≡ flow.Ask a → AtAsk most w place code c0 n0 ip c n i c2 n2 (request_of a) (use_of a)
-        at_ask {c2} {f} {a} did is = record { progress = g; is = e; count = m; did = at_place did (flow.Ask a) is }
-
-        -- the same, by what the machine asks for
         pub at_request : {c2 : Config} {f f2 : declared.Flow} (q : Request) (u : Use) → effect here (ip + 1) i c ≡ Goes c2 (flow_of f) → f ≡ f2 → flow_of f2 ≡ Ask q u → AtAsk most w place code c0 n0 ip c n i c2 n2 q u
         at_request {c2} {f2 = f2} q u did is asks =
             record { progress = g; is = e; count = m; did = at_place did f2 is ∙ ap (Goes c2) asks }

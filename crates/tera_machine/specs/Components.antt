@@ -1,5 +1,5 @@
 -- Which component a request takes, and the context in which it runs.
-use Rattle.std.specs.Prelude.{◌≡◌, suc, List, [], ◌∷◌, Option, None, Some, Result, Ok, Err, bytes_eq, if◌then◌else◌}
+use Rattle.std.specs.Prelude.{◌≡◌, suc, None, Some, Result, Ok, Err}
 use Rattle.tera_errors.specs.Site.{Name}
 use Rattle.tera_errors.specs.Answer.{SeenError}
 use Rattle.tera_syntax_tree.specs.Tree.{Nodes}
@@ -10,20 +10,13 @@ use Rattle.tera_meaning.specs.Run.{Request}
 use Rattle.tera_meaning.specs.Whole.{World, Place, Refuses, Takes, way, place_of_component}
 use Rattle.tera_code.specs.Listing.{Listing}
 use Rattle.tera_code.specs.Code.{listing_of}
-use Rattle.tera_registry.specs.declared.templates.Defined.{Defined}
+use Rattle.tera_registry.specs.HandedOut.{code_of}
 use Rattle.tera_machine.specs.declared.components.Called.{Called}
+use Rattle.tera_machine.specs.Subject.{IsOf}
 
 -- a component as it is kept: what it is given, and its code
 abbrev pub kept_meant : Component → Definition × Listing
 kept_meant c = (definition_of c.signature, listing_of c.file c.body)
-
-abbrev pub found_of : Defined → Definition × Listing
-found_of d = (d.definition.now, d.chunk.now)
-
--- the first of this name among those that are kept
-abbrev pub first_kept : Name → List (Definition × Listing) → Option (Definition × Listing)
-first_kept name [] = None
-first_kept name (k ∷ ks) = if bytes_eq name k.0.name then Some k else first_kept name ks
 
 -- the component's code, the context of the call, and how many components are open then
 pub record IsCalled (w : World) (p : Place) (q : Request) (v : Variables)
@@ -33,7 +26,8 @@ pub record IsCalled (w : World) (p : Place) (q : Request) (v : Variables)
   pub takes : way w p q v
       ≡ Takes (place_of_component (in_component called.context p.around v) p.autoescape
       (suc p.depth) file) nothing_set body
-  pub code : called.body.chunk.now ≡ listing_of file body
+  pub code : code_of called.body ≡ listing_of file body
+  pub linked : IsOf w.registry called.body
   pub depth : called.depth ≡ suc p.depth
 
 -- the component is called, or the request is refused, unless memory was refused

@@ -7,6 +7,8 @@ use Rattle.tera_machine.specs.declared.asked.Asked.{Asked}
 use Rattle.tera_machine.specs.declared.asked.Asked.TheVariants as asked
 use Rattle.tera_machine.specs.declared.asked.AskedComponent.{AskedComponent}
 use Rattle.tera_machine.specs.declared.asked.AskedTemplate.{AskedTemplate}
+use Rattle.tera_machine.specs.declared.asked.Request as requested
+use Rattle.tera_machine.specs.declared.asked.Request.TheVariants as request
 use Rattle.tera_machine.specs.declared.machine.Flow as declared
 use Rattle.tera_machine.specs.declared.machine.Flow.TheVariants as flow
 
@@ -17,7 +19,7 @@ pub data Use : Type 0 where
   Pushed : (safe : Bool) (span : Span) → Use
 
 -- at the next instruction; so many behind that; so many behind a position; at the end; or at the next
--- one, when another body was taken
+-- one, when another body was run
 pub data Flow : Type 0 where
   On : Flow
   Skip : (count : ℕ) → Flow
@@ -25,14 +27,14 @@ pub data Flow : Type 0 where
   Out : Flow
   Ask : (request : Request) (use' : Use) → Flow
 
--- what is asked of bodies that stand elsewhere, and what is made of the text
-abbrev pub request_of : Asked → Request
-request_of (asked.Block name span) = ABlock name.now span
-request_of (asked.Above span) = Above span
+-- what is requested of a block, and what is made of its text
+abbrev pub block_request : Asked → Request
+block_request (asked.Block name span) = ABlock name.now span
+block_request (asked.Above span) = Above span
 
-abbrev pub use_of : Asked → Use
-use_of (asked.Block name span) = Written
-use_of (asked.Above span) = Pushed true span
+abbrev pub block_use : Asked → Use
+block_use (asked.Block name span) = Written
+block_use (asked.Above span) = Pushed true span
 
 -- the same for a template that is included, whose text is written
 abbrev pub include_request : AskedTemplate → Request
@@ -45,12 +47,23 @@ component_request a = AComponent a.name.now (named_arguments a.given) a.body a.s
 abbrev pub component_use : AskedComponent → Use
 component_use a = Pushed a.safe a.span
 
+-- what is requested of any body, and what is made of its text
+abbrev pub request_of : requested.Request → Request
+request_of (request.Block name span) = ABlock name.now span
+request_of (request.Above span) = Above span
+request_of (request.Include name span) = AnInclude name.now span
+request_of (request.Component a) = component_request a.value
+
+abbrev pub use_of : requested.Request → Use
+use_of (request.Block name span) = Written
+use_of (request.Above span) = Pushed true span
+use_of (request.Include name span) = Written
+use_of (request.Component a) = component_use a.value
+
 -- what instructions come to
 abbrev pub flow_of : declared.Flow → Flow
 flow_of flow.On = On
 flow_of (flow.Skip count) = Skip count
 flow_of (flow.To place count) = To place count
 flow_of flow.Out = Out
-flow_of (flow.Ask a) = Ask (request_of a) (use_of a)
-flow_of (flow.Include a) = Ask (include_request a) Written
-flow_of (flow.Component a) = Ask (component_request a.value) (component_use a.value)
+flow_of (flow.Ask r) = Ask (request_of r) (use_of r)

@@ -9,6 +9,7 @@ pub mod Exec
 pub mod Together
 pub mod Paths
 pub mod Advance
+pub mod OpenThings
 pub mod Included
 pub mod Subject
 pub mod Printing

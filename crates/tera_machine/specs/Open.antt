@@ -1,32 +1,34 @@
 -- The bodies that wait.
-use Rattle.std.specs.Prelude.{◌≡◌, ◌≢◌, ℕ, ◌+◌, ◌≤◌, slice_get, List, [], ◌∷◌, drop, None, Some, Result, Ok, Err}
+use Rattle.std.specs.Prelude.{◌≡◌, ◌≢◌, ℕ, ◌+◌, ◌≤◌, slice_get, List, [], ◌∷◌, None, Some, Result, Ok, Err}
 use Rattle.tera_errors.specs.Answer.{SeenError}
-use Rattle.tera_state.specs.Scopes.{coming_of}
 use Rattle.tera_meaning.specs.Run.{Request}
 use Rattle.tera_meaning.specs.Whole.{World, Place, Refuses, way, here_at}
-use Rattle.tera_code.specs.Listing.{Listing}
 use Rattle.tera_code.specs.Code.{Code}
 use Rattle.tera_code.specs.declared.instruction.Instruction.{Instruction}
+use Rattle.tera_code.specs.Listing.{Listing}
+use Rattle.tera_code.specs.Targets.{Target, TemplateNamed, ComponentNamed}
+use Rattle.tera_registry.specs.HandedOut.{code_of, Takes}
+use Rattle.tera_registry.specs.declared.body.Body.{Body}
 use Rattle.tera_machine.specs.Did.{Goes}
 use Rattle.tera_machine.specs.Effect.{effect}
-use Rattle.tera_machine.specs.declared.asked.Asked.{Asked}
+use Rattle.tera_machine.specs.declared.asked.Request as requested
+use Rattle.tera_machine.specs.declared.asked.Request.TheVariants as request
 use Rattle.tera_machine.specs.declared.blocks.OpenBlocks.{OpenBlocks}
 use Rattle.tera_machine.specs.declared.bodies.Back.{Back}
 use Rattle.tera_machine.specs.declared.bodies.Back.TheVariants as back
 use Rattle.tera_machine.specs.declared.bodies.Behind.{Behind}
-use Rattle.tera_machine.specs.declared.bodies.Body.{Body}
 use Rattle.tera_machine.specs.declared.blocks.Around.{Around}
 use Rattle.tera_machine.specs.declared.bodies.Waiting.{Waiting}
 use Rattle.tera_machine.specs.declared.configuration.Configuration.{Configuration}
 use Rattle.tera_machine.specs.declared.machine.VirtualMachine.{VirtualMachine}
-use Rattle.tera_machine.specs.Config.{Config, config_of, loops_at}
-use Rattle.tera_machine.specs.Flow.{Use, Ask, Written, Pushed, request_of, use_of}
+use Rattle.tera_machine.specs.Config.{Config, config_of}
+use Rattle.tera_machine.specs.Flow.{Use, Ask, Written, Pushed}
+use Rattle.tera_machine.specs.OpenThings.{one_fewer, ended_at}
 use Rattle.tera_machine.specs.Exec.{Finished, Ends, BodyEnds}
 use Rattle.tera_machine.specs.Advance.{Advance, BodyWithin}
-use Rattle.tera_machine.specs.Subject.{IsLinked, place_at}
-use Rattle.tera_machine.specs.Bodies.{Entered, Stays, closed_by, closed_in}
+use Rattle.tera_machine.specs.Subject.{IsLinked, Belong, place_at}
+use Rattle.tera_machine.specs.Bodies.{Entered, Leaves, Stays}
 use Rattle.tera_machine.specs.Apart.{Rejoins}
-use Rattle.tera_machine.specs.Wanted.{ended_by, Noted}
 
 -- at an instruction that takes another body
 pub record AtAsk (most : ℕ) (w : World) (p : Place) (code : Code) (c0 : Config) (n0 ip : ℕ)
@@ -58,35 +60,23 @@ abbrev pub HasOuter : List Waiting → Configuration → Type 0
 HasOuter [] c = Unit {0}
 HasOuter (r ∷ rs) c = IsApart r.back → c.scopes.below ≢ []
 
--- a body that was asked for is left
-pub record LeavesAsked (a : Asked) (r : Waiting) (b3 : OpenBlocks) (c3 : Configuration)
-    (b4 : OpenBlocks) (c4 : Configuration) : Type 0 where
-  pub config : config_of c4
-      ≡ closed_in (config_of c3).captures (request_of a) (use_of a) r.outer.ended.all
-      (loops_at r.outer.places (coming_of c3.scopes)) (config_of c3)
-  pub names : b4.names ≡ closed_by a b3.names
-  pub above : b4.above ≡ r.above
-  pub noted : Noted b3.wanted (ended_by a (config_of c3).run.text) b4.wanted
-  pub included : b4.included ≡ b3.included
-  pub places : c4.places ≡ r.outer.places
-  pub scopes : c4.scopes ≡ c3.scopes
-
--- and so is a body that stands in a state of its own
+-- a body that stands in a state of its own is left
 pub record LeavesApart (u : Use) (around : Around) (r : Waiting) (b3 : OpenBlocks)
     (c3 : Configuration) (b4 : OpenBlocks) (c4 : Configuration) : Type 0 where
   pub rejoins : Rejoins u c3 r.outer c4
-  pub names : b4.names ≡ around.names
+  pub opened : b4.opened ≡ ended_at around.start b3.opened
   pub above : b4.above ≡ r.above
   pub wanted : b4.wanted ≡ record b3.wanted { notes = around.notes }
 
 abbrev pub left_by : Back → Waiting → OpenBlocks → Configuration → OpenBlocks → Configuration
     → Type 0
-left_by (back.Taken a) r b3 c3 b4 c4 = LeavesAsked a r b3 c3 b4 c4
+left_by (back.Taken a) r b3 c3 b4 c4 = Leaves a r.above r.outer b3 c3 b4 c4
 left_by (back.Included around template) r b3 c3 b4 c4 =
     LeavesApart Written around r b3 c3 b4 c4
-    × (b4.included.names ≡ drop 1 b3.included.names)
+    × (b4.included ≡ one_fewer b3.included)
 left_by (back.Called around included template depth safe span) r b3 c3 b4 c4 =
-    LeavesApart (Pushed safe span) around r b3 c3 b4 c4 × (b4.included ≡ included)
+    LeavesApart (Pushed safe span) around r b3 c3 b4 c4
+    × (b4.included ≡ ended_at included b3.included)
 
 abbrev pub Left : Waiting → OpenBlocks → Configuration → OpenBlocks → Configuration → Type 0
 Left r b3 c3 b4 c4 = left_by r.back r b3 c3 b4 c4
@@ -115,30 +105,45 @@ pub record PutsBack (w : World) (p : Place) (q : Request) (u : Use) (b0 : OpenBl
       → BodyEnds w p q u (config_of c0) (Finished (config_of c4) j) × Stays b0 c0 b4 c4
 
 -- a body runs, and the one around it waits
-pub record Taken {O : Type 0} (w : World) (m : VirtualMachine O) (here : Listing) (next : ℕ)
+pub record Taken {O : Type 0} (w : World) (m : VirtualMachine O) (here : Body) (next : ℕ)
     (q : Request) (u : Use) (b0 : OpenBlocks) (c0 : Configuration) (open0 : List Waiting)
     (m1 : VirtualMachine O) (body : Body) (b1 : OpenBlocks) (c1 : Configuration)
     (open1 : List Waiting) : Type 0 where
   pub waits : Waiting
   pub is : open1 ≡ waits ∷ open0
   pub machine : machine_again waits m1 ≡ m
-  pub code : waits.body.chunk.now ≡ here
+  pub around : waits.body ≡ here
   pub at : waits.at ≡ next
-  pub enters : Entered w (place_at m here.file b0 c0) q (config_of c0)
-      (place_at m1 body.chunk.now.file b1 c1) body.chunk.now.code (config_of c1)
-  pub keeps : PutsBack w (place_at m here.file b0 c0) q u b0 c0 waits
-      (place_at m1 body.chunk.now.file b1 c1) body.chunk.now.code b1 c1
+  pub enters : Entered w (place_at m (code_of here).file b0 c0) q (config_of c0)
+      (place_at m1 (code_of body).file b1 c1) (code_of body).code (config_of c1)
+  pub keeps : PutsBack w (place_at m (code_of here).file b0 c0) q u b0 c0 waits
+      (place_at m1 (code_of body).file b1 c1) (code_of body).code b1 c1
   pub linked : IsLinked m1 w
+  pub belong : Belong w m1 body b1
   pub objects : m1.objects.now ≡ m.objects.now
 
-abbrev pub TakesBody : {O : Type 0} → World → VirtualMachine O → Listing → ℕ → Request → Use
+abbrev pub TakesBody : {O : Type 0} → World → VirtualMachine O → Body → ℕ → Request → Use
     → OpenBlocks → Configuration → List Waiting → VirtualMachine O → Result Body SeenError
     → OpenBlocks → Configuration → List Waiting → Type 0
 TakesBody w m here next q u b0 c0 open0 m1 (Ok body) b1 c1 open1 =
     Taken w m here next q u b0 c0 open0 m1 body b1 c1 open1
 TakesBody w m here next q u b0 c0 open0 m1 (Err None) b1 c1 open1 = Unit {0}
 TakesBody w m here next q u b0 c0 open0 m1 (Err (Some f)) b1 c1 open1 =
-    way w (place_at m here.file b0 c0) q (config_of c0).run.vars ≡ Refuses f
+    way w (place_at m (code_of here).file b0 c0) q (config_of c0).run.vars ≡ Refuses f
+
+-- the instruction before a position takes this
+pub record TakesBefore (body : Body) (next : ℕ) (target : Target) : Type 0 where
+  pub at : ℕ
+  pub is : next ≡ at + 1
+  pub takes : Takes body at target
+
+-- the instruction before a position takes what is requested, where that stands elsewhere
+abbrev pub TakesRequested : Body → ℕ → requested.Request → Type 0
+TakesRequested body next (request.Block name span) = Unit {0}
+TakesRequested body next (request.Above span) = Unit {0}
+TakesRequested body next (request.Include name span) = TakesBefore body next (TemplateNamed name.now)
+TakesRequested body next (request.Component a) =
+    TakesBefore body next (ComponentNamed a.value.name.now)
 
 -- a body that waits, for one that began so
 pub record Waits (most : ℕ) (w : World) {O : Type 0} (m : VirtualMachine O) (here : Listing)
@@ -163,6 +168,7 @@ pub record Waits (most : ℕ) (w : World) {O : Type 0} (m : VirtualMachine O) (h
   pub keeps : PutsBack w (place_at m here.file blocks configuration) request use' blocks
       configuration r p1 code1 b1 c1
   pub linked : IsLinked m w
+  pub belong : Belong w m r.body blocks
   pub next : r.at ≡ ip + 1
 
 -- where a whole run begins
@@ -179,9 +185,9 @@ abbrev pub Came : {O : Type 0} → ℕ → World → Beginning O → List Waitin
 Came most w o [] m code b c n =
     o ≡ record { machine = m; code = code; blocks = b; configuration = c; count = n }
 Came most w o (r ∷ rs) m code b c n =
-    (x : Waits most w (machine_again r m) r.body.chunk.now r
+    (x : Waits most w (machine_again r m) (code_of r.body) r
     (place_at m code.file b c) code.code b c n)
-    × Came most w o rs (machine_again r m) r.body.chunk.now x.began x.start x.first
+    × Came most w o rs (machine_again r m) (code_of r.body) x.began x.start x.first
 
 -- and in that body, which this machine runs, to this position
 pub record Running {O : Type 0} (most : ℕ) (w : World) (o : Beginning O) (open' : List Waiting)

@@ -1,99 +1,105 @@
 // What is open around the body that runs.
-ghost use Rattle.std.specs.Prelude.{◌≡◌, [], false, OnOk, IfOk, IfErr};
+ghost use Rattle.std.specs.Prelude.{◌≡◌, [], false, length, OnOk, IfOk, IfErr};
 ghost use Rattle.tera_errors.specs.Prelude.{Lacks};
-ghost use Rattle.tera_syntax_tree.specs.Prelude.{is_among};
-ghost use Rattle.tera_registry.specs.Prelude.{definers_of};
-ghost use Rattle.tera_machine.specs.Bodies.{opened_by, closed_by};
-ghost use Rattle.tera_machine.specs.Included.{names_in};
+ghost use Rattle.tera_meaning.specs.Prelude.{Registry};
+ghost use Rattle.tera_registry.specs.Prelude.{definers_of, AreAmong};
+ghost use Rattle.tera_machine.specs.OpenThings.{nothing, begun, ended_at};
+ghost use Rattle.tera_machine.specs.Bodies.{blocks_opened_by, blocks_closed_by};
 
 use crate::asked::Asked;
-use crate::includes::Included;
+use crate::open_things::{Numbered, OpenThings};
 use crate::wanted::Wanted;
 use std::alloc::Global;
 use std::mem::replace;
-use tera_registry::{Definer, Definers};
-use tera_state::Stack;
+use tera_registry::{Definer, Definers, FoundTemplate};
 use tera_values::{Name, TeraResult};
 
-/// What is open around a template that is included, and around a component.
+/// A block that is open, and the number of the body that its nearest definer has: for the template that is rendered no two
+/// names share one.
+#[derive(Drop)]
+pub struct OpenBlock {
+    pub name: Name,
+    pub number: usize,
+}
+
+impl Numbered for OpenBlock {
+    ghost number_of = { λ b. b.number };
+
+    fn number(&self) -> usize {
+        self.number
+    }
+}
+
+/// What is to be again behind a template that is included, and behind a component: where the blocks start that are open
+/// inside, and whether one that ends may be the one that is wanted.
 #[derive(Drop)]
 pub struct Around {
-    pub names: Stack<Name>,
+    pub start: usize,
     pub notes: bool,
 }
 
-/// The names of the blocks that are open, the innermost on top, those who define the innermost above the body that runs,
-/// the block that is wanted, and the templates that are included and open.
+/// The blocks that are open, those who define the innermost above the body that runs, the block that is wanted, and the
+/// templates that are included and open. Inside are those that are open in the template that is rendered, and in the
+/// component that runs.
 #[derive(Drop)]
 pub struct OpenBlocks<'t> {
-    pub names: Stack<Name>,
+    pub opened: OpenThings<OpenBlock>,
     pub above: Definers<'t>,
     pub wanted: Wanted,
-    pub included: Included<'t>,
+    pub included: OpenThings<FoundTemplate<'t>>,
 }
 
 impl<'t> OpenBlocks<'t> {
     /// Nothing is open; takes no memory.
     pub fn new(alloc: Global, wanted: Wanted) -> OpenBlocks<'t>
-        ensures names { result.names ≡ [] }
+        ensures opened { result.opened ≡ nothing }
         ensures above { definers_of result.above ≡ [] }
+        ensures among { (r : Registry) → AreAmong r result.above }
         ensures wanted { result.wanted ≡ wanted }
-        ensures included { names_in result.included ≡ [] }
+        ensures included { result.included ≡ nothing }
     {
         OpenBlocks {
-            names: Stack::new(alloc),
+            opened: OpenThings::new(alloc),
             above: Definers::none(),
             wanted,
-            included: Included::new(alloc),
+            included: OpenThings::new(alloc),
         }
     }
 
-    /// What runs now has no block open, and of those that end in it none is wanted. Hands out what was open.
-    pub fn enter_apart(&mut self, alloc: Global) -> Around
-        ensures names { self.new.names ≡ [] }
+    /// What runs now has no block open, and of those that end in it none is wanted. Hands out what is to be again.
+    pub fn enter_apart(&mut self) -> Around
+        ensures opened { self.new.opened ≡ begun self.old.opened }
         ensures above { definers_of self.new.above ≡ [] }
+        ensures among { (r : Registry) → AreAmong r self.new.above }
         ensures wanted { self.new.wanted ≡ record self.old.wanted { notes = false } }
         ensures included { self.new.included ≡ self.old.included }
-        ensures before { (result.names ≡ self.old.names)
+        ensures before { (result.start ≡ length self.old.opened.around)
             × (result.notes ≡ self.old.wanted.notes) }
     {
         self.above = Definers::none();
         Around {
-            names: replace(&mut self.names, Stack::new(alloc)),
+            start: self.opened.begin(),
             notes: replace(&mut self.wanted.notes, false),
         }
     }
 
     /// That is over, and what was open is again.
     pub fn leave_apart(&mut self, around: Around, above: Definers<'t>)
-        ensures names { self.new.names ≡ around.names }
+        ensures opened { self.new.opened ≡ ended_at around.start self.old.opened }
         ensures above { self.new.above ≡ above.entry }
         ensures wanted { self.new.wanted ≡ record self.old.wanted { notes = around.notes } }
         ensures included { self.new.included ≡ self.old.included }
     {
-        let Around { names, notes } = around;
-        self.names = names;
+        let Around { start, notes } = around;
+        self.opened.end(start);
         self.above = above;
         self.wanted.notes = notes;
     }
 
-    /// Whether the block of this name is open.
-    pub fn has(&self, name: &Name) -> bool
-        ensures { result ≡ is_among name.now self.now.names }
-    {
-        let mut height = self.names.len();
-        while height > 0 {
-            height -= 1;
-            if name.sought().is(self.names.at_height(height)) {
-                return true;
-            }
-        }
-        false
-    }
-
     /// Opens the body of this definer, and hands those out who were above.
     pub fn enter(&mut self, asked: Asked<'_>, definer: &Definer<'t>) -> TeraResult<Definers<'t>>
-        ensures names { OnOk result (self.new.names ≡ opened_by asked.entry self.old.names) }
+        ensures opened { OnOk result (self.new.opened
+            ≡ blocks_opened_by asked.entry definer.now.number self.old.opened) }
         ensures above { OnOk result (self.new.above ≡ definer.now.above) }
         ensures wanted { self.new.wanted ≡ self.old.wanted }
         ensures included { self.new.included ≡ self.old.included }
@@ -101,7 +107,10 @@ impl<'t> OpenBlocks<'t> {
         ensures lacks { IfErr result Lacks }
     {
         match asked {
-            Asked::Block(name, _) => self.names.push(name.share()?)?,
+            Asked::Block(name, _) => self.opened.push(OpenBlock {
+                name: name.share()?,
+                number: definer.number,
+            })?,
             Asked::Above(_) => {}
         }
         let above = self.above;
@@ -111,13 +120,13 @@ impl<'t> OpenBlocks<'t> {
 
     /// Closes the body, with those above who were there before.
     pub fn leave(&mut self, asked: Asked<'_>, above: Definers<'t>)
-        ensures names { self.new.names ≡ closed_by asked.entry self.old.names }
+        ensures opened { self.new.opened ≡ blocks_closed_by asked.entry self.old.opened }
         ensures above { self.new.above ≡ above.entry }
         ensures wanted { self.new.wanted ≡ self.old.wanted }
         ensures included { self.new.included ≡ self.old.included }
     {
         match asked {
-            Asked::Block(_, _) => drop(self.names.pop()),
+            Asked::Block(_, _) => self.opened.pop(),
             Asked::Above(_) => {}
         }
         self.above = above;

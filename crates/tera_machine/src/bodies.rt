@@ -3,19 +3,18 @@ ghost use Rattle.std.specs.Prelude.{◌≡◌, ◌≢◌, [], OnOk, IfOk, IfErr}
 ghost use Rattle.tera_errors.specs.Prelude.{Lacks};
 ghost use Rattle.tera_state.specs.Prelude.{coming_of};
 ghost use Rattle.tera_meaning.specs.Prelude.{definers};
-ghost use Rattle.tera_registry.specs.Prelude.{definers_of};
+ghost use Rattle.tera_registry.specs.Prelude.{definers_of, first_number_of, AreAmong};
 ghost use Rattle.tera_machine.specs.Config.{config_of, loops_at};
 ghost use Rattle.tera_machine.specs.Exec.{entered};
-ghost use Rattle.tera_machine.specs.Flow.{request_of, use_of};
-ghost use Rattle.tera_machine.specs.Subject.{IsLinked, template_of, place_at};
+ghost use Rattle.tera_machine.specs.Flow.{block_request, block_use};
+ghost use Rattle.tera_machine.specs.Subject.{AreFrom, AreNumbered, IsLinked, IsOf, Belong, first_number_for, template_of, place_at};
 ghost use Rattle.tera_machine.specs.Wanted.{ended_by, Noted};
-ghost use Rattle.tera_machine.specs.Bodies.{FindsBody, Enters, Leaves, closed_in};
+ghost use Rattle.tera_machine.specs.Bodies.{FindsBody, IsNumbered, Enters, closed_in};
 
 use crate::asked::Asked;
 use crate::blocks::{Around, OpenBlocks};
 use crate::configuration::Configuration;
 use crate::ended::Ended;
-use crate::includes::Included;
 use crate::machine::{Limit, VirtualMachine};
 use crate::place::LoopPlace;
 use crate::wanted::Wanted;
@@ -24,7 +23,7 @@ use tera_code::Chunk;
 use tera_errors::Error;
 use tera_objects::Objects;
 use tera_operators::Operand;
-use tera_registry::{Definer, Definers, FoundTemplate, Home};
+use tera_registry::{Body, Definer, Definers, FoundTemplate};
 use tera_state::Stack;
 use tera_values::{Name, Span, TeraResult};
 
@@ -43,13 +42,6 @@ pub struct Inside<'t> {
     pub outer: Outer,
 }
 
-/// The code of a body, and where its references are linked.
-#[derive(Clone, Copy)]
-pub struct Body<'t> {
-    pub chunk: &'t Chunk,
-    pub home: Home,
-}
-
 /// What is to be made of a body's text, and what is to be again behind it.
 #[derive(Drop)]
 pub enum Back<'t> {
@@ -60,10 +52,11 @@ pub enum Back<'t> {
         around: Around,
         template: Option<FoundTemplate<'t>>,
     },
-    /// It is an operand, which may be safe. This is open again, and this template is rendered.
+    /// It is an operand, which may be safe. This is open again, with the templates that are included above this start, and
+    /// this template is rendered.
     Called {
         around: Around,
-        included: Included<'t>,
+        included: usize,
         template: Option<FoundTemplate<'t>>,
         depth: usize,
         safe: bool,
@@ -117,7 +110,7 @@ impl<'c> Configuration<'c> {
     ) -> TeraResult<()>
         requires { (config_of self.old).captures ≢ [] }
         ensures config { OnOk result (config_of self.new ≡ closed_in (config_of self.old).captures
-            (request_of asked.entry) (use_of asked.entry) outer.ended.all
+            (block_request asked.entry) (block_use asked.entry) outer.ended.all
             (loops_at outer.places (coming_of self.old.scopes)) (config_of self.old)) }
         ensures places { OnOk result (self.new.places ≡ outer.places) }
         ensures noted { OnOk result (Noted wanted.old
@@ -155,7 +148,11 @@ impl<'t, O: Objects> VirtualMachine<'t, O> {
     // Those who define a block for the template that is rendered.
     fn definers<M: Limit>(&self, name: &Name) -> Definers<'t>
         requires { IsLinked self.now M.world }
-        ensures { definers_of result ≡ definers M.world.registry (template_of self.now) name.now }
+        ensures those { definers_of result
+            ≡ definers M.world.registry (template_of self.now) name.now }
+        ensures number { first_number_of result
+            ≡ first_number_for M.world.registry (template_of self.now) name.now }
+        ensures among { AreAmong M.world.registry result }
     {
         match self.template {
             Some(found) => found.definers(name.as_str()),
@@ -170,30 +167,29 @@ impl<'t, O: Objects> VirtualMachine<'t, O> {
         asked: Asked<'_>,
         blocks: &OpenBlocks<'t>,
     ) -> TeraResult<Definer<'t>>
-        requires { IsLinked self.now M.world }
-        ensures { (c : Configuration) → FindsBody M.world
+        requires linked { IsLinked self.now M.world }
+        requires among { AreAmong M.world.registry blocks.now.above }
+        requires numbered { AreNumbered M.world.registry (template_of self.now)
+            blocks.now.opened.inner }
+        ensures finds { (c : Configuration) → FindsBody M.world
             (place_at self.now chunk.now.file blocks.now c) asked.entry
             (config_of c).run.vars result }
+        ensures number { IfOk result (λ d. IsNumbered M.world.registry (template_of self.now)
+            asked.entry d.number) }
+        ensures belong { IfOk result (λ d. IsOf M.world.registry d.body
+            × AreAmong M.world.registry d.above) }
     {
         match asked {
             Asked::Block(name, span) => {
-                if blocks.has(name) {
-                    return Err(Error::rendering(
-                        self.alloc,
-                        "a block is put out inside itself",
-                        chunk.file(),
-                        span,
-                    ));
+                let Some(definer) = self.definers::<M>(name).next() else {
+                    let words = "no template has this block";
+                    return Err(Error::rendering(self.alloc, words, chunk.file(), span));
+                };
+                if blocks.opened.has(definer.number) {
+                    let words = "a block is put out inside itself";
+                    return Err(Error::rendering(self.alloc, words, chunk.file(), span));
                 }
-                match self.definers::<M>(name).next() {
-                    Some(definer) => Ok(definer),
-                    None => Err(Error::rendering(
-                        self.alloc,
-                        "no template has this block",
-                        chunk.file(),
-                        span,
-                    )),
-                }
+                Ok(definer)
             }
             Asked::Above(span) => match blocks.above.next() {
                 Some(definer) => Ok(definer),
@@ -215,9 +211,15 @@ impl<'t, O: Objects> VirtualMachine<'t, O> {
         blocks: &mut OpenBlocks<'t>,
         configuration: &mut Configuration<'_>,
     ) -> TeraResult<Inside<'t>>
-        requires { IsLinked self.now M.world }
-        ensures { Enters M.world self.now chunk.now.file asked.entry blocks.old configuration.old
-            result blocks.new configuration.new }
+        requires linked { IsLinked self.now M.world }
+        requires among { AreAmong M.world.registry blocks.old.above }
+        requires included { AreFrom blocks.old.included.inner M.world.registry }
+        requires numbered { AreNumbered M.world.registry (template_of self.now)
+            blocks.old.opened.inner }
+        ensures enters { Enters M.world self.now chunk.now.file asked.entry blocks.old
+            configuration.old result blocks.new configuration.new }
+        ensures belong { IfOk result (λ inside. Belong M.world self.now inside.definer.body
+            blocks.new) }
     {
         let definer = match self.definer::<M>(chunk, asked, blocks) {
             Ok(definer) => definer,

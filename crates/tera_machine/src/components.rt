@@ -1,24 +1,26 @@
 // Components: how the machine finds them, enters their bodies, and leaves them.
-ghost use Rattle.std.specs.Prelude.{◌≡◌, ◌≢◌, [], map, option_map, OnOk, IfOk, IfErr};
+ghost use Rattle.std.specs.Prelude.{◌≡◌, ◌≢◌, [], option_map, OnOk, IfOk, IfErr, IfSome};
 ghost use Rattle.tera_errors.specs.Prelude.{Lacks};
 ghost use Rattle.tera_state.specs.Prelude.{in_component, around_of, variables_of};
-ghost use Rattle.tera_meaning.specs.Prelude.{component, component_at};
-ghost use Rattle.tera_registry.specs.Prelude.{kept_of, IsDefined};
+ghost use Rattle.tera_meaning.specs.Prelude.{component_at};
+ghost use Rattle.tera_code.specs.Targets.{ComponentNamed};
+ghost use Rattle.tera_registry.specs.Prelude.{code_of, found_of, first_kept, IsDefined};
 ghost use Rattle.tera_machine.specs.declared.blocks.OpenBlocks.{OpenBlocks};
 ghost use Rattle.tera_machine.specs.Config.{config_of};
 ghost use Rattle.tera_machine.specs.Flow.{Pushed, component_request};
 ghost use Rattle.tera_machine.specs.Apart.{Begins, Rejoins};
-ghost use Rattle.tera_machine.specs.Components.{found_of, first_kept, Calls};
-ghost use Rattle.tera_machine.specs.Subject.{IsLinked, kept_beside, place_at};
+ghost use Rattle.tera_machine.specs.Components.{Calls};
+ghost use Rattle.tera_machine.specs.Open.{TakesBefore};
+ghost use Rattle.tera_machine.specs.Subject.{IsLinked, IsOf, kept_beside, place_at};
 
 use crate::asked::AskedComponent;
-use crate::bodies::{Body, Outer};
+use crate::bodies::Outer;
 use crate::configuration::Configuration;
 use crate::machine::{Limit, VirtualMachine};
 use tera_errors::Error;
 use tera_objects::Objects;
 use tera_operators::{Operand, fault_at};
-use tera_registry::{Component, Defined, Home, Templates};
+use tera_registry::{Body, Defined, TextTable};
 use tera_values::{Kwargs, Name, Span, TeraResult, Value};
 
 /// How deep components may call one another.
@@ -27,10 +29,10 @@ const MAX_DEPTH: usize = 20;
 /// The components that a text beside the templates defines.
 #[derive(Clone, Copy)]
 pub struct Beside<'t> {
-    pub components: &'t [Component],
+    pub text: &'t TextTable<'t>,
 }
 
-/// A component that is called: its code and where that is linked, the context in which it runs, and how many components are open then.
+/// A component that is called: its body, the context in which that runs, and how many components are open then.
 #[derive(Drop)]
 pub struct Called<'t> {
     pub body: Body<'t>,
@@ -68,53 +70,35 @@ impl<'c> Configuration<'c> {
     }
 }
 
-// The first of this name.
-#[tactic(auto, using(crate::proofs::Calling::kept_step))]
-fn first_of<'t>(components: &'t [Component], name: &Name) -> Option<Defined<'t>>
-    ensures { option_map found_of result
-        ≡ first_kept name.now (map kept_of components.entry.now) }
-{
-    for component in components {
-        if name.as_str() == component.definition.name() {
-            return Some(Defined {
-                definition: &component.definition,
-                chunk: &component.code,
-                home: Home::nowhere(),
-            });
-        }
-    }
-    None
-}
-
 impl<'t, O: Objects> VirtualMachine<'t, O> {
-    // The component of this name among those of the templates.
-    fn registered<M: Limit>(&self, name: &Name, home: Home, number: usize) -> Option<Defined<'t>>
+    // The one of this name among those of the text beside the templates.
+    fn beside<M: Limit>(&self, name: &Name) -> Option<Defined<'t>>
         requires { IsLinked self.now M.world }
-        ensures { IsDefined (component M.world.registry name.now) result }
-    {
-        let templates: &'t Templates = self.templates;
-        templates.component_linked(name, home, number)
-    }
-
-    // The one among those of the text beside them.
-    fn beside(&self, name: &Name) -> Option<Defined<'t>>
-        ensures { option_map found_of result
+        ensures first { option_map found_of result
             ≡ first_kept name.now (kept_beside self.now.beside) }
+        ensures linked { IfSome result (λ d. IsOf M.world.registry d.body) }
     {
         match self.beside {
-            Some(beside) => first_of(beside.components, name),
+            Some(beside) => {
+                let text: &'t TextTable<'t> = beside.text;
+                text.component(name.as_str())
+            }
             None => None,
         }
     }
 
-    // The component of this name: that of the templates, else that of the text beside them.
-    fn named<M: Limit>(&self, name: &Name, home: Home, number: usize) -> Option<Defined<'t>>
-        requires { IsLinked self.now M.world }
-        ensures { IsDefined (component_at M.world name.now) result }
+    // The component of this name, which the instruction before this position of the code calls: that of the templates, else that
+    // of the text beside them.
+    fn named<M: Limit>(&self, here: Body<'t>, next: usize, name: &Name) -> Option<Defined<'t>>
+        requires linked { IsLinked self.now M.world }
+        requires here { IsOf M.world.registry here }
+        requires takes { TakesBefore here next (ComponentNamed name.now) }
+        ensures defined { IsDefined (component_at M.world name.now) result }
+        ensures linked { IfSome result (λ d. IsOf M.world.registry d.body) }
     {
-        match self.registered::<M>(name, home, number) {
+        match here.component_at(next - 1) {
             Some(component) => Some(component),
-            None => self.beside(name),
+            None => self.beside::<M>(name),
         }
     }
 
@@ -123,40 +107,39 @@ impl<'t, O: Objects> VirtualMachine<'t, O> {
     pub(crate) fn called<M: Limit>(
         &self,
         here: Body<'t>,
+        next: usize,
         asked: AskedComponent<'_>,
         configuration: &Configuration<'_>,
     ) -> TeraResult<Called<'t>>
-        requires { IsLinked self.now M.world }
+        requires linked { IsLinked self.now M.world }
+        requires here { IsOf M.world.registry here }
+        requires takes { TakesBefore here next (ComponentNamed asked.name.now) }
         ensures { (blocks : OpenBlocks) → Calls M.world
-            (place_at self.now here.entry.chunk.now.file blocks configuration.now)
+            (place_at self.now (code_of here.entry).file blocks configuration.now)
             (component_request asked.entry) (variables_of configuration.now.scopes) result }
     {
         let AskedComponent {
             name,
-            number,
             given,
             body,
             safe: _,
             span,
         } = asked;
-        let Some(component) = self.named::<M>(name, here.home, number) else {
+        let Some(component) = self.named::<M>(here, next, name) else {
             let words = "no component has this name";
-            return Err(Error::rendering(self.alloc, words, here.chunk.file(), span));
+            return Err(Error::rendering(self.alloc, words, here.chunk().file(), span));
         };
         let scopes = &configuration.scopes;
         let context = match component.definition.bind(self.alloc, &given, scopes, body) {
             Ok(context) => context,
-            Err(error) => return Err(fault_at(self.alloc, here.chunk.file(), &error, span)),
+            Err(error) => return Err(fault_at(self.alloc, here.chunk().file(), &error, span)),
         };
         if self.depth >= MAX_DEPTH {
             let words = "components call one another too deep";
             return Err(Error::message(self.alloc, words));
         }
         Ok(Called {
-            body: Body {
-                chunk: component.chunk,
-                home: component.home,
-            },
+            body: component.body,
             context,
             depth: self.depth + 1,
         })

@@ -1,56 +1,32 @@
 // Templates that are included: how the machine enters their bodies, and how it leaves them.
 ghost use Rattle.std.specs.Prelude.{◌≡◌, ◌≢◌, [], OnOk, IfOk, IfErr};
 ghost use Rattle.tera_errors.specs.Prelude.{Lacks};
-ghost use Rattle.tera_syntax_tree.specs.Prelude.{is_among};
 ghost use Rattle.tera_state.specs.Prelude.{in_include, around_of, variables_of};
-ghost use Rattle.tera_registry.specs.Prelude.{Finds};
+ghost use Rattle.tera_code.specs.Targets.{TemplateNamed};
 ghost use Rattle.tera_machine.specs.Config.{config_of};
 ghost use Rattle.tera_machine.specs.Flow.{Written, include_request};
-ghost use Rattle.tera_machine.specs.Included.{names_in};
 ghost use Rattle.tera_machine.specs.Includes.{FindsTemplate};
 ghost use Rattle.tera_machine.specs.Apart.{Begins, Rejoins};
-ghost use Rattle.tera_machine.specs.Subject.{IsLinked, place_at};
+ghost use Rattle.tera_machine.specs.Open.{TakesBefore};
+ghost use Rattle.tera_machine.specs.Subject.{AreFrom, IsOf, place_at};
+ghost use Rattle.tera_registry.specs.Prelude.{code_of};
 
 use crate::asked::AskedTemplate;
 use crate::blocks::OpenBlocks;
-use crate::bodies::{Body, Outer};
+use crate::bodies::Outer;
 use crate::configuration::Configuration;
 use crate::machine::{Limit, VirtualMachine};
-use std::alloc::Global;
+use crate::open_things::Numbered;
 use tera_errors::Error;
 use tera_objects::Objects;
-use tera_registry::{FoundTemplate, Home, Templates};
-use tera_state::Stack;
-use tera_values::{Name, TeraResult};
+use tera_registry::{Body, FoundTemplate};
+use tera_values::TeraResult;
 
-/// The names of the templates that are included and open, the innermost on top.
-#[derive(Drop)]
-pub struct Included<'t> {
-    pub names: Stack<&'t str>,
-}
+impl<'t> Numbered for FoundTemplate<'t> {
+    ghost number_of = { λ f. f.position };
 
-impl<'t> Included<'t> {
-    /// None is; takes no memory.
-    pub fn new(alloc: Global) -> Included<'t>
-        ensures { names_in result ≡ [] }
-    {
-        Included {
-            names: Stack::new(alloc),
-        }
-    }
-
-    /// Whether the template of this name is among them.
-    pub fn has(&self, name: &str) -> bool
-        ensures { result ≡ is_among name.now (names_in self.now) }
-    {
-        let mut height = self.names.len();
-        while height > 0 {
-            height -= 1;
-            if name == *self.names.at_height(height) {
-                return true;
-            }
-        }
-        false
+    fn number(&self) -> usize {
+        self.position
     }
 }
 
@@ -83,35 +59,29 @@ impl<'c> Configuration<'c> {
 }
 
 impl<'t, O: Objects> VirtualMachine<'t, O> {
-    // The template to which the name resolves.
-    fn found<M: Limit>(&self, name: &Name, home: Home, number: usize) -> Option<FoundTemplate<'t>>
-        requires { IsLinked self.now M.world }
-        ensures { Finds M.world.registry name.now result }
-    {
-        let templates: &'t Templates = self.templates;
-        templates.find_linked(name, home, number)
-    }
-
-    /// The template to include, or the fault of the request.
+    /// The template to include, which the instruction before this position of the code takes, or the fault of the request.
     pub(crate) fn included<M: Limit>(
         &self,
         here: Body<'t>,
+        next: usize,
         asked: AskedTemplate<'_>,
         blocks: &OpenBlocks<'t>,
     ) -> TeraResult<FoundTemplate<'t>>
-        requires { IsLinked self.now M.world }
+        requires linked { IsOf M.world.registry here }
+        requires takes { TakesBefore here next (TemplateNamed asked.name.now) }
+        requires included { AreFrom blocks.now.included.inner M.world.registry }
         ensures { (c : Configuration) → FindsTemplate M.world
-            (place_at self.now here.entry.chunk.now.file blocks.now c) (include_request asked.entry)
+            (place_at self.now (code_of here.entry).file blocks.now c) (include_request asked.entry)
             (config_of c).run.vars result }
     {
-        let AskedTemplate { name, number, span } = asked;
-        let Some(found) = self.found::<M>(name, here.home, number) else {
+        let AskedTemplate { name: _, span } = asked;
+        let Some(found) = here.template_at(next - 1) else {
             let words = "no template has this name";
-            return Err(Error::rendering(self.alloc, words, here.chunk.file(), span));
+            return Err(Error::rendering(self.alloc, words, here.chunk().file(), span));
         };
-        if blocks.included.has(found.name) {
+        if blocks.included.has(found.position) {
             let words = "a template is included inside itself";
-            return Err(Error::rendering(self.alloc, words, here.chunk.file(), span));
+            return Err(Error::rendering(self.alloc, words, here.chunk().file(), span));
         }
         Ok(found)
     }

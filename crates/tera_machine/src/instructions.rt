@@ -8,11 +8,11 @@ ghost use Rattle.tera_machine.specs.Subject.{here_of};
 ghost use Rattle.tera_machine.specs.declared.machine.Flow.TheVariants as flow;
 ghost use Rattle.tera_state.specs.Prelude.{around_of};
 
-use crate::asked::{Asked, AskedComponent, AskedTemplate};
+use crate::asked::{AskedComponent, Request};
 use crate::configuration::Configuration;
 use crate::machine::{Flow, Going, VirtualMachine};
 use std::alloc::{AllocError, Global};
-use tera_code::{CallKind, Instruction, Keys, LentName};
+use tera_code::{CallKind, Instruction, Keys};
 use tera_errors::lacking;
 use tera_objects::Objects;
 use tera_operators::Operand;
@@ -93,22 +93,18 @@ impl<'c> Configuration<'c> {
             Instruction::LeaveLoop(drops) => self.leave_loop(*drops),
             Instruction::LeaveTurn(drops) => self.leave_turn(*drops),
             Instruction::TakeBlock { name, span } => {
-                Ok(Flow::Ask(Asked::Block(name.as_name(), *span)))
+                Ok(Flow::Ask(Request::Block(name.as_name(), *span)))
             }
             Instruction::TakeAbove { arguments, span } => self.take_above(*arguments, *span),
             Instruction::TakeInclude { name, span } => {
-                Ok(Flow::Include(AskedTemplate {
-                    name: name.as_name(),
-                    number: name.number(),
-                    span: *span,
-                }))
+                Ok(Flow::Ask(Request::Include(name.as_name(), *span)))
             }
             Instruction::TakeComponent {
                 name,
                 keys,
                 has_body,
                 span,
-            } => self.take_component(machine, file, name, keys, *has_body, *span),
+            } => self.take_component(machine, file, name.as_name(), keys, *has_body, *span),
             Instruction::ApplyFilter {
                 name,
                 arguments,
@@ -361,7 +357,7 @@ impl<'c> Configuration<'c> {
         ensures { Does (above_taken arguments span) self.old result self.new }
     {
         drop(self.take_topmost(arguments)?);
-        Ok(Flow::Ask(Asked::Above(span)))
+        Ok(Flow::Ask(Request::Above(span)))
     }
 
     // The text that a component is handed, if it has a body. It is kept in shared form, so that a copy of it is a count.
@@ -387,7 +383,7 @@ impl<'c> Configuration<'c> {
         &mut self,
         machine: &VirtualMachine<'_, O>,
         file: &str,
-        name: &LentName<'f>,
+        name: &'f Name,
         keys: &Keys<'f>,
         has_body: bool,
         span: Span,
@@ -404,14 +400,13 @@ impl<'c> Configuration<'c> {
         let body = self.handed(machine.alloc, has_body)?;
         let given = tera_operators::entries(machine.alloc, file, keys, operands)?;
         let asked = AskedComponent {
-            name: name.as_name(),
-            number: name.number(),
+            name,
             given,
             body,
             safe: machine.autoescape,
             span,
         };
-        Ok(Flow::Component(Box::new(machine.alloc, asked)?))
+        Ok(Flow::Ask(Request::Component(Box::new(machine.alloc, asked)?)))
     }
 
     #[inline(always)]

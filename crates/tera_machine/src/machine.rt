@@ -1,32 +1,31 @@
 // A run of a body, and of those that it takes.
-ghost use Rattle.std.specs.Prelude.{◌≡◌, ◌≢◌, IfErr, IfOk, ℕ, ◌+◌, ◌-◌, ◌*◌, ◌≤◌, [], None, Some, IsTrue, OnOk, string_bytes, map};
+ghost use Rattle.std.specs.Prelude.{◌≡◌, ◌≢◌, IfErr, IfOk, IfSome, ℕ, ◌+◌, ◌-◌, ◌*◌, ◌≤◌, [], None, Some, IsTrue, OnOk, string_bytes, map};
 ghost use Rattle.tera_meaning.specs.Prelude.{visits_of, new_registry, alone, block_of, World};
 ghost use Rattle.tera_errors.specs.Prelude.{Gives};
 ghost use Rattle.tera_state.specs.Prelude.{around_of};
 ghost use Rattle.tera_code.specs.Prelude.{nodes_code};
-ghost use Rattle.tera_registry.specs.Prelude.{kept_of};
+ghost use Rattle.tera_registry.specs.Prelude.{kept_of, code_of};
+ghost use Rattle.tera_code.specs.Targets.{TemplateNamed, ComponentNamed};
 ghost use Rattle.tera_machine.specs.Config.{config_of};
 ghost use Rattle.tera_machine.specs.Exec.{EndsWithin, Ran};
-ghost use Rattle.tera_machine.specs.Flow.{Written, request_of, use_of, include_request, component_request, component_use};
+ghost use Rattle.tera_machine.specs.Flow.{Written, request_of, use_of, block_request, block_use, include_request, component_request, component_use};
 ghost use Rattle.tera_machine.specs.Bodies.{Stays};
-ghost use Rattle.tera_machine.specs.Open.{TakesBody, HasOuter, Resumes};
+ghost use Rattle.tera_machine.specs.Open.{TakesBefore, TakesRequested, TakesBody, HasOuter, Resumes};
 ghost use Rattle.tera_errors.specs.Prelude.{Lacks};
-ghost use Rattle.tera_machine.specs.Subject.{Subject, IsLinked, kept_beside, meant_from, engine_of, place_at, place_of, Means};
+ghost use Rattle.tera_machine.specs.Subject.{Subject, IsLinked, IsOf, Belong, kept_beside, meant_from, engine_of, place_at, place_of, Means};
 
-use crate::asked::{Asked, AskedComponent, AskedTemplate};
+use crate::asked::{Asked, AskedComponent, AskedTemplate, Request};
 use crate::blocks::OpenBlocks;
-use crate::bodies::{Back, Behind, Body, Inside, Waiting};
+use crate::bodies::{Back, Behind, Inside, Waiting};
 use crate::components::{Beside, Called};
 use crate::configuration::Configuration;
-use crate::includes::Included;
 use crate::wanted::Wanted;
 use std::alloc::Global;
 use std::marker::Brand;
-use std::mem::replace;
 use std::sync::ledger::Ledger;
 use tera_code::{Chunk, Steps};
 use tera_objects::Objects;
-use tera_registry::{Component, FoundTemplate, Home, Templates};
+use tera_registry::{Body, FoundTemplate, TextTable};
 use tera_state::Stack;
 use tera_values::{Name, TeraResult};
 
@@ -41,12 +40,8 @@ pub enum Flow<'f> {
     To(usize, usize),
     /// At the end of the body.
     Out,
-    /// At the next instruction, when another body was taken.
-    Ask(Asked<'f>),
-    /// At the next instruction, when this template was included.
-    Include(AskedTemplate<'f>),
-    /// At the next instruction, when this component was run.
-    Component(Box<AskedComponent<'f>>),
+    /// At the next instruction, when another body was run.
+    Ask(Request<'f>),
 }
 
 /// Where the machine goes on, or why it does not.
@@ -65,61 +60,54 @@ impl Limit for Brand {
     ghost most = { 0 };
 }
 
-/// Runs compiled bodies. It holds what no run changes:
-/// - the templates, among which it finds what is included and what components are called;
+/// Runs bodies of a table, which lead to what they include and call. It holds what no run changes:
 /// - the objects, which it asks for filters, tests, functions and the escape;
 /// - the template that is rendered, if one is, of which it takes blocks;
-/// - the components of a text beside the templates;
+/// - the text beside the templates, if one is rendered, with the components that it defines;
 /// - how many components are open around what it runs.
 #[derive_where(Clone, Copy)]
 pub struct VirtualMachine<'t, O> {
     pub(crate) alloc: Global,
     pub(crate) autoescape: bool,
-    pub(crate) templates: &'t Templates,
     pub(crate) objects: &'t O,
     pub(crate) template: Option<FoundTemplate<'t>>,
     pub(crate) beside: Option<Beside<'t>>,
     pub(crate) depth: usize,
-    /// Where the code is linked that it runs first.
-    pub(crate) home: Home,
 }
 
 impl<'t, O: Objects> VirtualMachine<'t, O> {
-    /// A machine for a text beside these templates, that escapes what it writes.
-    pub fn new(alloc: Global, templates: &'t Templates, objects: &'t O) -> VirtualMachine<'t, O>
+    /// A machine for bodies of no template, that escapes what it writes.
+    pub fn new(alloc: Global, objects: &'t O) -> VirtualMachine<'t, O>
         ensures escapes { IsTrue result.autoescape }
-        ensures templates { result.templates.now ≡ templates.now }
         ensures objects { result.objects.now ≡ objects.now }
         ensures alone { result.template ≡ None }
+        ensures text { result.beside ≡ None }
         ensures beside { kept_beside result.beside ≡ [] }
         ensures depth { result.depth ≡ 0 }
     {
-        VirtualMachine::new_with_autoescape(alloc, true, templates, objects)
+        VirtualMachine::new_with_autoescape(alloc, true, objects)
     }
 
     /// The same, that escapes what it writes where the flag says so.
     pub fn new_with_autoescape(
         alloc: Global,
         autoescape: bool,
-        templates: &'t Templates,
         objects: &'t O,
     ) -> VirtualMachine<'t, O>
         ensures escapes { result.autoescape ≡ autoescape }
-        ensures templates { result.templates.now ≡ templates.now }
         ensures objects { result.objects.now ≡ objects.now }
         ensures alone { result.template ≡ None }
+        ensures text { result.beside ≡ None }
         ensures beside { kept_beside result.beside ≡ [] }
         ensures depth { result.depth ≡ 0 }
     {
         VirtualMachine {
             alloc,
             autoescape,
-            templates,
             objects,
             template: None,
             beside: None,
             depth: 0,
-            home: Home::nowhere(),
         }
     }
 
@@ -131,63 +119,50 @@ impl<'t, O: Objects> VirtualMachine<'t, O> {
         objects: &'t O,
     ) -> VirtualMachine<'t, O>
         ensures escapes { result.autoescape ≡ autoescape }
-        ensures templates { result.templates.now ≡ template.entry.templates.now }
         ensures objects { result.objects.now ≡ objects.now }
         ensures template { result.template ≡ Some template.entry }
+        ensures text { result.beside ≡ None }
         ensures beside { kept_beside result.beside ≡ [] }
         ensures depth { result.depth ≡ 0 }
     {
         VirtualMachine {
             alloc,
             autoescape,
-            templates: template.templates,
             objects,
             template: Some(template),
             beside: None,
             depth: 0,
-            home: template.home(),
         }
     }
 
-    /// The same, for a text that defines these components.
-    pub fn with_components(self, components: &'t [Component]) -> VirtualMachine<'t, O>
+    /// The same, for this text.
+    pub fn with_text(self, text: &'t TextTable<'t>) -> VirtualMachine<'t, O>
         ensures escapes { result.autoescape ≡ self.entry.autoescape }
-        ensures templates { result.templates.now ≡ self.entry.templates.now }
         ensures objects { result.objects.now ≡ self.entry.objects.now }
         ensures template { result.template ≡ self.entry.template }
-        ensures beside { kept_beside result.beside ≡ map kept_of components.now }
+        ensures text { IfSome result.beside (λ b. b.text.now ≡ text.now) }
+        ensures beside { kept_beside result.beside ≡ map kept_of text.now.components.items }
         ensures depth { result.depth ≡ self.entry.depth }
     {
         VirtualMachine {
-            beside: Some(Beside { components }),
+            beside: Some(Beside { text }),
             ..self
         }
-    }
-
-    /// The same, for code that is linked at home there.
-    pub fn linked_at(self, home: Home) -> VirtualMachine<'t, O>
-        ensures escapes { result.autoescape ≡ self.entry.autoescape }
-        ensures templates { result.templates.now ≡ self.entry.templates.now }
-        ensures objects { result.objects.now ≡ self.entry.objects.now }
-        ensures template { result.template ≡ self.entry.template }
-        ensures beside { result.beside ≡ self.entry.beside }
-        ensures depth { result.depth ≡ self.entry.depth }
-    {
-        VirtualMachine { home, ..self }
     }
 
     /// Runs the code of a body to its end, within eight instructions a visit of the body's meaning.
     pub fn run<L: Ledger>(
         &self,
-        chunk: &'t Chunk,
+        body: Body<'t>,
         configuration: &mut Configuration<'_>,
         steps: &mut Steps<L>,
     ) -> TeraResult<()>
         ghost about: { Subject }
         requires engine { engine_of O.engine self.now ≡ about.world.registry.engine }
         requires linked { IsLinked self.now about.world }
-        requires place { place_of self.now chunk.now.file configuration.old ≡ about.place }
-        requires code { chunk.now.code ≡ nodes_code about.tree 0 }
+        requires here { IsOf about.world.registry body }
+        requires place { place_of self.now (code_of body).file configuration.old ≡ about.place }
+        requires code { (code_of body).code ≡ nodes_code about.tree 0 }
         requires own { (config_of configuration.old).loops ≡ [] }
         ensures few { steps.new ≤ steps.old + 8 * visits_of (meant_from about configuration.old) }
         ensures means { Means (meant_from about configuration.old)
@@ -196,13 +171,13 @@ impl<'t, O: Objects> VirtualMachine<'t, O> {
             ≡ around_of configuration.old.scopes) }
     {
         let mut blocks = OpenBlocks::new(self.alloc, Wanted::none());
-        self.run_counted::<Brand, L>(chunk, &mut blocks, configuration, steps)
+        self.run_counted::<Brand, L>(body, &mut blocks, configuration, steps)
     }
 
     /// The same, where no block ended before: the text of the block of this name as it ended last, or the empty text.
     pub fn run_for_block<L: Ledger>(
         &self,
-        chunk: &'t Chunk,
+        body: Body<'t>,
         block: &Name,
         configuration: &mut Configuration<'_>,
         steps: &mut Steps<L>,
@@ -210,8 +185,9 @@ impl<'t, O: Objects> VirtualMachine<'t, O> {
         ghost about: { Subject }
         requires engine { engine_of O.engine self.now ≡ about.world.registry.engine }
         requires linked { IsLinked self.now about.world }
-        requires place { place_of self.now chunk.now.file configuration.old ≡ about.place }
-        requires code { chunk.now.code ≡ nodes_code about.tree 0 }
+        requires here { IsOf about.world.registry body }
+        requires place { place_of self.now (code_of body).file configuration.old ≡ about.place }
+        requires code { (code_of body).code ≡ nodes_code about.tree 0 }
         requires own { (config_of configuration.old).loops ≡ [] }
         requires none { (config_of configuration.old).run.blocks ≡ [] }
         ensures few { steps.new ≤ steps.old + 8 * visits_of (meant_from about configuration.old) }
@@ -220,17 +196,16 @@ impl<'t, O: Objects> VirtualMachine<'t, O> {
     {
         let wanted = Wanted::block(block)?;
         let mut blocks = OpenBlocks::new(self.alloc, wanted);
-        match self.run_counted::<Brand, L>(chunk, &mut blocks, configuration, steps) {
+        match self.run_counted::<Brand, L>(body, &mut blocks, configuration, steps) {
             Ok(()) => {}
             Err(error) => return Err(error),
         }
         let OpenBlocks {
-            names,
+            opened: _,
             above: _,
             wanted,
             included: _,
         } = blocks;
-        drop(names);
         Ok(wanted.into_text(self.alloc))
     }
 
@@ -238,33 +213,32 @@ impl<'t, O: Objects> VirtualMachine<'t, O> {
     // list, so the host's stack does not grow.
     fn run_counted<M: Limit, L: Ledger>(
         &self,
-        first: &'t Chunk,
+        first: Body<'t>,
         blocks: &mut OpenBlocks<'t>,
         configuration: &mut Configuration<'_>,
         steps: &mut Steps<L>,
     ) -> TeraResult<()>
         requires engine { engine_of O.engine self.now ≡ M.world.registry.engine }
         requires linked { IsLinked self.now M.world }
+        requires belong { Belong M.world self.now first blocks.old }
         requires within { EndsWithin M.world
-            (place_at self.now first.now.file blocks.old configuration.old) first.now.code 0
-            (config_of configuration.old) (M.most - steps.old) }
+            (place_at self.now (code_of first).file blocks.old configuration.old)
+            (code_of first).code 0 (config_of configuration.old) (M.most - steps.old) }
         ensures counted { steps.old ≤ steps.new }
         ensures bounded { steps.old ≤ M.most → steps.new ≤ M.most }
-        ensures ends { Ran M.world (place_at self.now first.now.file blocks.old configuration.old)
-            first.now.code (config_of configuration.old) result (config_of configuration.new)
-            (steps.new - steps.old) }
+        ensures ends { Ran M.world
+            (place_at self.now (code_of first.entry).file blocks.old configuration.old)
+            (code_of first.entry).code (config_of configuration.old) result
+            (config_of configuration.new) (steps.new - steps.old) }
         ensures stays { OnOk result (Stays blocks.old configuration.old blocks.new
             configuration.new) }
     {
         let mut open: Stack<Waiting<'t>> = Stack::new(self.alloc);
         let mut machine = *self;
-        let mut body = Body {
-            chunk: first,
-            home: self.home,
-        };
+        let mut body = first;
+        let mut chunk = body.chunk();
         let mut at = 0;
         'bodies: loop {
-            let chunk = body.chunk;
             let Some(instruction) = chunk.get(at, steps) else {
                 if open.len() == 0 {
                     return Ok(());
@@ -276,6 +250,7 @@ impl<'t, O: Objects> VirtualMachine<'t, O> {
                     }
                     Err(error) => return Err(error),
                 }
+                chunk = body.chunk();
                 continue;
             };
             let mut last = at;
@@ -295,62 +270,73 @@ impl<'t, O: Objects> VirtualMachine<'t, O> {
                 Flow::Skip(count) => at = next + count,
                 Flow::To(place, count) => at = place + count,
                 Flow::Out => at = chunk.len(),
-                Flow::Ask(asked) => {
-                    match machine.take::<M>(body, next, asked, blocks, configuration, &mut open) {
+                Flow::Ask(request) => {
+                    match machine.take::<M>(body, next, request, blocks, configuration, &mut open) {
                         Ok(inner) => body = inner,
                         Err(error) => return Err(error),
                     }
-                    at = 0;
-                }
-                Flow::Include(asked) => {
-                    match machine.include::<M>(
-                        body,
-                        next,
-                        asked,
-                        blocks,
-                        configuration,
-                        &mut open,
-                    ) {
-                        Ok(inner) => body = inner,
-                        Err(error) => return Err(error),
-                    }
-                    at = 0;
-                }
-                Flow::Component(asked) => {
-                    match machine.component::<M>(
-                        body,
-                        next,
-                        asked,
-                        blocks,
-                        configuration,
-                        &mut open,
-                    ) {
-                        Ok(inner) => body = inner,
-                        Err(error) => return Err(error),
-                    }
+                    chunk = body.chunk();
                     at = 0;
                 }
             }
         }
     }
 
-    // The body that is asked for begins, and the one that asks waits, to go on at that position.
+    // The body that is requested begins, and the one that requests it waits, to go on at that position.
     #[inline(never)]
     fn take<M: Limit>(
+        &mut self,
+        here: Body<'t>,
+        next: usize,
+        request: Request<'t>,
+        blocks: &mut OpenBlocks<'t>,
+        configuration: &mut Configuration<'_>,
+        waiting: &mut Stack<Waiting<'t>>,
+    ) -> TeraResult<Body<'t>>
+        requires linked { IsLinked self.old M.world }
+        requires belong { Belong M.world self.old here blocks.old }
+        requires takes { TakesRequested here next request }
+        ensures { TakesBody M.world self.old here.entry next (request_of request.entry)
+            (use_of request.entry) blocks.old configuration.old waiting.old self.new result blocks.new
+            configuration.new waiting.new }
+    {
+        match request {
+            Request::Block(name, span) => {
+                let asked = Asked::Block(name, span);
+                self.take_block::<M>(here, next, asked, blocks, configuration, waiting)
+            }
+            Request::Above(span) => {
+                let asked = Asked::Above(span);
+                self.take_block::<M>(here, next, asked, blocks, configuration, waiting)
+            }
+            Request::Include(name, span) => {
+                let asked = AskedTemplate { name, span };
+                self.include::<M>(here, next, asked, blocks, configuration, waiting)
+            }
+            Request::Component(asked) => {
+                self.component::<M>(here, next, asked, blocks, configuration, waiting)
+            }
+        }
+    }
+
+    // The same of a block, or of what a template above makes of it.
+    #[inline(never)]
+    fn take_block<M: Limit>(
         &self,
         here: Body<'t>,
-        at: usize,
+        next: usize,
         asked: Asked<'t>,
         blocks: &mut OpenBlocks<'t>,
         configuration: &mut Configuration<'_>,
         waiting: &mut Stack<Waiting<'t>>,
     ) -> TeraResult<Body<'t>>
         requires linked { IsLinked self.now M.world }
-        ensures { TakesBody M.world self.now here.entry.chunk.now at (request_of asked.entry)
-            (use_of asked.entry) blocks.old configuration.old waiting.old self.now result blocks.new
+        requires belong { Belong M.world self.now here blocks.old }
+        ensures { TakesBody M.world self.now here.entry next (block_request asked.entry)
+            (block_use asked.entry) blocks.old configuration.old waiting.old self.now result blocks.new
             configuration.new waiting.new }
     {
-        let inside = match self.enter::<M>(here.chunk, asked, blocks, configuration) {
+        let inside = match self.enter::<M>(here.chunk(), asked, blocks, configuration) {
             Ok(inside) => inside,
             Err(error) => return Err(error),
         };
@@ -361,15 +347,12 @@ impl<'t, O: Objects> VirtualMachine<'t, O> {
         } = inside;
         waiting.push(Waiting {
             body: here,
-            at,
+            at: next,
             above,
             outer,
             back: Back::Taken(asked),
         })?;
-        Ok(Body {
-            chunk: definer.chunk,
-            home: definer.home,
-        })
+        Ok(definer.body)
     }
 
     // The same of the template that is included.
@@ -377,28 +360,30 @@ impl<'t, O: Objects> VirtualMachine<'t, O> {
     fn include<M: Limit>(
         &mut self,
         here: Body<'t>,
-        at: usize,
+        next: usize,
         asked: AskedTemplate<'t>,
         blocks: &mut OpenBlocks<'t>,
         configuration: &mut Configuration<'_>,
         waiting: &mut Stack<Waiting<'t>>,
     ) -> TeraResult<Body<'t>>
         requires linked { IsLinked self.old M.world }
-        ensures { TakesBody M.world self.old here.entry.chunk.now at (include_request asked.entry)
+        requires belong { Belong M.world self.old here blocks.old }
+        requires takes { TakesBefore here next (TemplateNamed asked.name.now) }
+        ensures { TakesBody M.world self.old here.entry next (include_request asked.entry)
             Written blocks.old configuration.old waiting.old self.new result blocks.new
             configuration.new waiting.new }
     {
-        let found = match self.included::<M>(here, asked, blocks) {
+        let found = match self.included::<M>(here, next, asked, blocks) {
             Ok(found) => found,
             Err(error) => return Err(error),
         };
         let outer = configuration.begin_include()?;
-        blocks.included.names.push(found.name)?;
+        blocks.included.push(found)?;
         let above = blocks.above;
-        let around = blocks.enter_apart(self.alloc);
+        let around = blocks.enter_apart();
         waiting.push(Waiting {
             body: here,
-            at,
+            at: next,
             above,
             outer,
             back: Back::Included {
@@ -407,10 +392,7 @@ impl<'t, O: Objects> VirtualMachine<'t, O> {
             },
         })?;
         self.template = Some(found);
-        Ok(Body {
-            chunk: found.body,
-            home: found.body_home(),
-        })
+        Ok(found.body())
     }
 
     // The same of the component that is called.
@@ -418,21 +400,23 @@ impl<'t, O: Objects> VirtualMachine<'t, O> {
     fn component<M: Limit>(
         &mut self,
         here: Body<'t>,
-        at: usize,
+        next: usize,
         asked: Box<AskedComponent<'t>>,
         blocks: &mut OpenBlocks<'t>,
         configuration: &mut Configuration<'_>,
         waiting: &mut Stack<Waiting<'t>>,
     ) -> TeraResult<Body<'t>>
         requires linked { IsLinked self.old M.world }
-        ensures { TakesBody M.world self.old here.entry.chunk.now at
-            (component_request asked.entry.value) (component_use asked.entry.value) blocks.old
-            configuration.old waiting.old self.new result blocks.new configuration.new waiting.new }
+        requires belong { Belong M.world self.old here blocks.old }
+        requires takes { TakesBefore here next (ComponentNamed asked.value.name.now) }
+        ensures { TakesBody M.world self.old here.entry next (component_request asked.entry.value)
+            (component_use asked.entry.value) blocks.old configuration.old waiting.old self.new result
+            blocks.new configuration.new waiting.new }
     {
         let asked = Box::into_inner(asked);
         let safe = asked.safe;
         let span = asked.span;
-        let called = match self.called::<M>(here, asked, configuration) {
+        let called = match self.called::<M>(here, next, asked, configuration) {
             Ok(called) => called,
             Err(error) => return Err(error),
         };
@@ -443,11 +427,11 @@ impl<'t, O: Objects> VirtualMachine<'t, O> {
         } = called;
         let outer = configuration.begin_component(context)?;
         let above = blocks.above;
-        let around = blocks.enter_apart(self.alloc);
-        let included = replace(&mut blocks.included, Included::new(self.alloc));
+        let around = blocks.enter_apart();
+        let included = blocks.included.begin();
         waiting.push(Waiting {
             body: here,
-            at,
+            at: next,
             above,
             outer,
             back: Back::Called {
@@ -494,7 +478,7 @@ impl<'t, O: Objects> VirtualMachine<'t, O> {
             Back::Included { around, template } => {
                 self.template = template;
                 blocks.leave_apart(around, above);
-                drop(blocks.included.names.pop());
+                blocks.included.pop();
                 configuration.end_include(outer)?;
             }
             Back::Called {
@@ -508,7 +492,7 @@ impl<'t, O: Objects> VirtualMachine<'t, O> {
                 self.template = template;
                 self.depth = depth;
                 blocks.leave_apart(around, above);
-                drop(replace(&mut blocks.included, included));
+                blocks.included.end(included);
                 configuration.end_component(safe, span, outer)?;
             }
         }

@@ -10,7 +10,7 @@ ghost use Rattle.tera_machine.specs.Paths.{Stands, start_at};
 ghost use Rattle.tera_machine.specs.Subject.{here_of};
 ghost use Rattle.tera_state.specs.Prelude.{around_of};
 
-use crate::asked::{Asked, AskedTemplate};
+use crate::asked::Request;
 use crate::configuration::Configuration;
 use crate::instructions::{Put, going_on, going_on_if};
 use crate::machine::{Flow, Going, VirtualMachine};
@@ -131,45 +131,17 @@ impl<'c> Configuration<'c> {
         if let Some((name, is_global)) = instruction.as_store() {
             return going_on(self.store(machine.alloc, name, is_global));
         }
-        self.request_or_execute(machine, chunk, at, instruction, steps)
-    }
-
-    // What is left: what asks for bodies that stand elsewhere, and then the rest.
-    #[inline(always)]
-    fn request_or_execute<'f, O: Objects, L: Ledger>(
-        &mut self,
-        machine: &VirtualMachine<'_, O>,
-        chunk: &Chunk,
-        at: &mut usize,
-        instruction: &LentInstruction<'f>,
-        steps: &mut Steps<L>,
-    ) -> Going<'f>
-        requires there { slice_get chunk.now.code at.old ≡ Some instruction.now }
-        requires few { length chunk.now.code < 2 ^ 64 }
-        requires ready { IsReady (effect (here_of O.engine machine.now chunk.now.file self.old)
-            (at.old + 1) instruction.now) self.old }
-        requires small { IsSmall (effect (here_of O.engine machine.now chunk.now.file self.old)
-            (at.old + 1) instruction.now (config_of self.old)) }
-        ensures stands { Stands (start_at (here_of O.engine machine.now chunk.now.file self.old)
-            at.old steps.old (config_of self.old)) chunk.now.code at.new steps.new }
-        ensures does { Does (done (here_of O.engine machine.now chunk.now.file self.old)
-            chunk.now.code (suc (steps.new - steps.old)) at.old) self.old result self.new }
-    {
         if let Some((name, span)) = instruction.as_block() {
-            return Ok(Flow::Ask(Asked::Block(name, span)));
+            return Ok(Flow::Ask(Request::Block(name, span)));
         }
         if let Some((name, span)) = instruction.as_include() {
-            return Ok(Flow::Include(AskedTemplate {
-                name: name.as_name(),
-                number: name.number(),
-                span,
-            }));
+            return Ok(Flow::Ask(Request::Include(name, span)));
         }
         if let Some((arguments, span)) = instruction.as_above() {
             return self.take_above(arguments, span);
         }
         if let Some((name, keys, has_body, span)) = instruction.as_component() {
-            return self.take_component(machine, chunk.file(), &name, &keys, has_body, span);
+            return self.take_component(machine, chunk.file(), name, &keys, has_body, span);
         }
         self.start_or_execute(machine, chunk, at, instruction, steps)
     }

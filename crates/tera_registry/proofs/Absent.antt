@@ -1,5 +1,5 @@
 -- What none of a list passes, and blocks that are lost.
-use Rattle.std.proofs.Common.{◌≡◌, ℕ, zero, suc, ◌+◌, ◌<◌, ◌≤◌, Bool, true, false, ◌&&◌, is_some, List, [], ◌∷◌, length, get_or, Option, Some, None, option_map, string_bytes, String, Global, inl, inr, refl, sym, ap, ◌∙◌, arith, slice_get}
+use Rattle.std.proofs.Common.{◌≡◌, ℕ, zero, suc, ◌+◌, ◌<◌, ◌≤◌, Bool, true, false, ◌&&◌, is_some, is_none, List, [], ◌∷◌, length, get_or, Option, Some, None, option_map, Ok, string_bytes, String, Global, inl, inr, refl, sym, ap, ◌∙◌, arith, slice_get}
 use Rattle.std.specs.List.{list_any}
 use Rattle.std.proofs.lemmas.Bool.{cases_lt}
 use Rattle.std.proofs.lemmas.Option.{slice_get_read, slice_get_within}
@@ -9,13 +9,14 @@ use Rattle.tera_errors.specs.Site.{Name}
 use Rattle.tera_syntax_tree.specs.Blocks.{top_blocks}
 use Rattle.tera_values.specs.Named.{Named}
 use Rattle.tera_meaning.specs.Registry.{Registry, Entry}
-use Rattle.tera_meaning.specs.Resolve.{entry_at}
+use Rattle.tera_meaning.specs.Resolve.{entry_at, parents}
 use Rattle.tera_meaning.specs.Lineage.{ancestors, definers_in}
 use Rattle.tera_meaning.specs.Accepted.{is_none_left, is_lost, loses_a_block}
 use Rattle.tera_registry.specs.declared.definers.At.{At}
 use Rattle.tera_registry.specs.declared.template.Template.{Template as Stored}
 use Rattle.tera_registry.specs.Kept.{entry_of}
-use Rattle.tera_registry.specs.Definers.{IsFirst}
+use Rattle.tera_registry.specs.Numbers.{first_of, from_standing, lineage, number_at}
+use Rattle.tera_registry.proofs.Numbered.{AreFrom, are-from, block-some, parents-climb}
 
 any-none-get : {X : Type 0} (p : X → Bool) (xs : List X) → ((k : ℕ) (x : X) → slice_get xs k ≡ Some x → p x ≡ false) → list_any p xs ≡ false
 any-none-get p [] h = refl
@@ -73,11 +74,19 @@ child-of kept t b same e =
     named_as None e = e
     named_as (Some s) e = e
 
-pub lost-none : (r : Registry) (t : Entry) (block : Name) → IsFirst r None (definers_in block (ancestors r t)) → is_lost r t block ≡ true
-lost-none r t block f = ap is_none_left f
+-- whether a block is lost is told by the number of the first who defines it above
+pub lost-by : (r : Registry) (t : Entry) (block : Name) (o : Option ℕ) → AreFrom r o (definers_in block (ancestors r t)) → is_lost r t block ≡ is_none o
+lost-by r t block None f = ap is_none_left f
+lost-by r t block (Some n) f =
+    ap is_none_left f.0 ∙ ap (λ o. is_none_left (from_standing r o)) (block-some r.templates n f.1).1
 
-pub lost-some : (r : Registry) (t : Entry) (block : Name) (at : At) → IsFirst r (Some at) (definers_in block (ancestors r t)) → is_lost r t block ≡ false
-lost-some r t block at f = f.1
+pub lost-so : (r : Registry) (t : Entry) (block : Name) (o : Option At) → parents r t ≡ Ok (ancestors r t) → option_map (number_at r.templates) o ≡ first_of (lineage r block (ancestors r t)) → is_lost r t block ≡ is_none o
+lost-so r t block o ok is =
+    lost-by r t block _ (are-from r block (ancestors r t) (parents-climb r t ok)) ∙ ap is_none (sym is) ∙ alike o
+  where
+    alike : (o : Option At) → is_none (option_map (number_at r.templates) o) ≡ is_none o
+    alike None = refl
+    alike (Some at) = refl
 
 pub loses-of : (r : Registry) (t : Entry) (b : Bool) → is_some t.1.tree.parent ≡ true → list_any (is_lost r t) (top_blocks t.1.tree.nodes) ≡ b → loses_a_block r t ≡ b
 loses-of r t b child is =

@@ -24,10 +24,12 @@ use Rattle.tera_registry.specs.Choices.{chosen_in, chosen_from, AreChosen}
 use Rattle.tera_registry.specs.Batch.{ReadsBatch, Adds}
 use Rattle.tera_registry.specs.Put.{put_among, Puts}
 use Rattle.tera_registry.specs.Order.{Rises}
-use Rattle.tera_registry.specs.Links.{AreUps, ArePlaced, AreRoots, IsLinked}
+use Rattle.tera_registry.specs.Bodies.{AreRooted}
+use Rattle.tera_registry.specs.Links.{AreUps, ArePlaced, AreRoots}
 use Rattle.tera_registry.specs.Kept.{entry_of, entries_of, seen, seen_by}
 use Rattle.tera_registry.proofs.Checked.{faultless, faulty, no-first-fault}
-use Rattle.tera_registry.proofs.Linked.{placed, linked}
+use Rattle.tera_registry.proofs.Linked.{placed}
+use Rattle.tera_registry.proofs.Tabled.{rooted}
 
 -- Templates and prefixes alone decide on faults.
 
@@ -158,10 +160,10 @@ module _ (engine : Engine) (ts lent : List (Rc Stored Global)) (ps lent_ps : Lis
       let meant : AreUps (seen_by engine ts ps) ups (length (entries_of ts)) = rw (e, f) at a in
       placed (seen ts ps) ups (record { as_many = meant.as_many; those = meant.those })
 
-  pub kept-linked : (roots : List ℕ) → AreRoots (seen_by engine lent lent_ps) roots (length (entries_of lent)) → IsLinked ts ps roots
-  kept-linked roots a =
+  pub kept-rooted : (roots : List ℕ) → AreRoots (seen_by engine lent lent_ps) roots (length (entries_of lent)) → AreRooted (seen ts ps) roots
+  kept-rooted roots a =
       let meant : AreRoots (seen_by engine ts ps) roots (length (entries_of ts)) = rw (e, f) at a in
-      linked ts ps roots (record { as_many = meant.as_many; those = meant.those })
+      rooted (seen ts ps) roots (record { as_many = meant.as_many; those = meant.those })
 
   pub kept-chosen : (choices : BTreeMap (String Global) Choice Global) → AreChosen (seen_by engine lent lent_ps) choices → AreChosen (seen ts ps) choices
   kept-chosen choices a =

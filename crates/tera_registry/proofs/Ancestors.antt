@@ -3,21 +3,18 @@ use Rattle.std.proofs.Common.{◌≡◌, ℕ, zero, suc, ◌<◌, List, [], ◌�
 use Rattle.std.specs.declared.rc.Rc.{Rc}
 use Rattle.std.specs.List.{cons_option}
 use Rattle.std.specs.Option.{option_or}
-use Rattle.std.proofs.lemmas.Option.{slice_get_read, slice_get-get_or, slice_get-map}
+use Rattle.std.proofs.lemmas.Option.{slice_get-get_or}
 use Rattle.tera_errors.specs.Fault.{Fault, message, circular_extend, circular_include}
 use Rattle.tera_errors.specs.Site.{Name}
 use Rattle.tera_syntax_tree.specs.Tree.{Nodes}
 use Rattle.tera_meaning.specs.Registry.{Registry, Entry}
 use Rattle.tera_meaning.specs.Resolve.{entry_at, onto, or_missing, or_none, up, resolve, parents}
-use Rattle.tera_meaning.specs.Lineage.{Definer, definers_in, ancestors}
-use Rattle.tera_meaning.specs.Accepted.{fault_of_parents, fault_if, leads_into_a_circle, template_fault, first_fault, is_none_left}
+use Rattle.tera_meaning.specs.Lineage.{definers_in, ancestors}
+use Rattle.tera_meaning.specs.Accepted.{fault_of_parents, fault_if, leads_into_a_circle, template_fault, first_fault}
 use Rattle.tera_meaning.specs.Components.{has_a_tie}
-use Rattle.tera_code.specs.declared.blocks.Block.{Block}
-use Rattle.tera_code.specs.Code.{listing_of}
-use Rattle.tera_code.specs.Listing.{Listing}
-use Rattle.tera_code.specs.Blocks.{block_of, block_listing, block_listings}
-use Rattle.tera_registry.specs.declared.definers.At.{At}
-use Rattle.tera_registry.specs.Positions.{IsPosition}
+use Rattle.tera_code.specs.Blocks.{block_listings}
+use Rattle.tera_registry.specs.declared.code.TemplateBlock.{TemplateBlock}
+use Rattle.tera_registry.specs.Components.{kept_block}
 use Rattle.tera_registry.specs.declared.template.Template.{Template as Stored}
 use Rattle.tera_registry.specs.declared.lineage.Up.{Up}
 use Rattle.tera_registry.specs.declared.lineage.Up.TheVariants as which
@@ -25,10 +22,9 @@ use Rattle.tera_registry.specs.Links.{IsUp, ArePlaced}
 use Rattle.tera_registry.specs.Order.{Rises}
 use Rattle.tera_registry.specs.Kept.{entries_of, seen}
 use Rattle.tera_registry.proofs.Linked.{found-placed}
-use Rattle.tera_registry.specs.Definers.{blocks_of, from_block, from_template, from_position, from_found, above_block, above_template, above_position, IsFirst, Grounded, Climbable, ancestors_at}
+use Rattle.tera_registry.specs.Definers.{blocks_of, Grounded, Climbable, ancestors_at}
 use Rattle.tera_registry.proofs.Element.{element}
 use Rattle.tera_registry.proofs.Kept.{length-entries}
-use Rattle.tera_registry.proofs.Placed.{named}
 
 -- A way up that ends within some steps ends so within more.
 
@@ -40,7 +36,7 @@ found-more : (o : Option Entry) (g h : Entry → Result (List Entry) Fault) (qs 
 found-more None g h qs ih e = e
 found-more (Some t) g h qs ih e = ih t e
 
-up-more : (find : Name → Option Entry) (k : ℕ) (o : Option Name) (qs : List Entry) → up find k o ≡ Ok qs → up find (suc k) o ≡ Ok qs
+pub up-more : (find : Name → Option Entry) (k : ℕ) (o : Option Name) (qs : List Entry) → up find k o ≡ Ok qs → up find (suc k) o ≡ Ok qs
 up-more find k None qs e = e
 up-more find zero (Some n) qs e =
     (let x : Err circular_extend ≡ Ok qs = e in cc)
@@ -126,71 +122,17 @@ pub none-own : (block : Name) (t : Entry) (ts : List Entry) → entry_at block (
 none-own block t ts none =
     ap (λ o. cons_option (option_map (λ (b : Name × Nodes). record { file = t.0; body = b.1 }) o) (definers_in block ts)) none
 
--- where a template has no such block, they are those from the one that it extends on
-pub pass-own : (r : Registry) (block : Name) (t v : Entry) → entry_at block (blocks_of t) ≡ None → ancestors r t ≡ v ∷ ancestors r v → definers_in block (t ∷ ancestors r t) ≡ definers_in block (v ∷ ancestors r v)
-pass-own r block t v none e = none-own block t (ancestors r t) none ∙ ap (definers_in block) e
-
--- and nobody, where it extends none
-pub nobody : (r : Registry) (block : Name) (t : Entry) → entry_at block (blocks_of t) ≡ None → t.1.tree.parent ≡ None → definers_in block (t ∷ ancestors r t) ≡ []
-nobody r block t none alone =
-    none-own block t (ancestors r t) none ∙ ap (definers_in block) (none-above r t alone)
-
-pub at-position : (r : Registry) (t : Entry) (at : At) (b : Name × Nodes) → slice_get r.templates at.template ≡ Some t → slice_get (blocks_of t) at.block ≡ Some b → from_position r at ≡ record { file = t.0; body = b.1 } ∷ definers_in b.0 (ancestors r t)
-at-position r t at b here there =
-    ap (from_template r at.block) here ∙ ap (from_block r t) there
-
-pub at-above : (r : Registry) (t : Entry) (at : At) (b : Name × Nodes) → slice_get r.templates at.template ≡ Some t → slice_get (blocks_of t) at.block ≡ Some b → above_position r at ≡ definers_in b.0 (ancestors r t)
-at-above r t at b here there =
-    ap (above_template r at.block) here ∙ ap (above_block r t) there
-
-pub found-first : (r : Registry) (o : Option At) (ds : List Definer) → IsFirst r o ds → from_found r o ≡ ds
-found-first r None ds f = sym f
-found-first r (Some at) ds f = sym f.0
-
--- the first is a template's own, where it has the block
-pub first-own : (r : Registry) (block : Name) (t : Entry) (at : At) → slice_get r.templates at.template ≡ Some t → IsPosition (blocks_of t) (Some at.block) (entry_at block (blocks_of t)) → IsFirst r (Some at) (definers_in block (t ∷ ancestors r t))
-first-own r block t at here position =
-    let b = element (blocks_of t) at.block position.1 in
-    let found : entry_at block (blocks_of t) ≡ Some b.0 = position.0 ∙ b.1 in
-    let first = own-first block t (ancestors r t) b.0 found in
-    let same : block ≡ (b.0).0 = named (blocks_of t) block b.0 found in
-    let there : from_position r at ≡ record { file = t.0; body = (b.0).1 } ∷ definers_in (b.0).0 (ancestors r t) = at-position r t at b.0 here b.1 in (
-      first ∙ ap (λ n. record { file = t.0; body = (b.0).1 } ∷ definers_in n (ancestors r t)) same ∙ sym there,
-      ap is_none_left first,
-    )
-
-pub first-moved : (r : Registry) (o : Option At) (ds es : List Definer) → ds ≡ es → IsFirst r o es → IsFirst r o ds
-first-moved r None ds es e f = e ∙ f
-first-moved r (Some at) ds es e f = (e ∙ f.0, ap is_none_left e ∙ f.1)
-
 -- The blocks of a template as they are kept, and those of its tree.
-pub kept-block : (bs : List Block) (file : Name) (ns : List (Name × Nodes)) (k : ℕ) (b : Block) → map block_of bs ≡ block_listings file ns → k < length bs → b ≡ get_or bs k b → (n : Name × Nodes) × (slice_get ns k ≡ Some n) × (b.name ≡ n.0) × (b.code ≡ listing_of file n.1)
-kept-block bs file ns k b same lt is =
-    let kept : slice_get (map block_of bs) k ≡ Some (block_of b) = slice_get-map block_of bs k ∙ ap (option_map block_of) (slice_get_read bs (length bs) k b refl lt is) in
-    let meant : option_map (block_listing file) (slice_get ns k) ≡ Some (block_of b) = sym (slice_get-map (block_listing file) ns k) ∙ ap (λ l. slice_get l k) (sym same) ∙ kept in
-    by_position (slice_get ns k) refl meant
-  where
-    by_position : (o : Option (Name × Nodes)) → slice_get ns k ≡ o → option_map (block_listing file) o ≡ Some (block_of b) → (n : Name × Nodes) × (slice_get ns k ≡ Some n) × (b.name ≡ n.0) × (b.code ≡ listing_of file n.1)
-    by_position None at e = (let x : None ≡ Some (block_of b) = e in cc)
-    by_position (Some n) at e =
-        (let x : Some (block_listing file n) ≡ Some (block_of b) = e in
-        let y : block_of b ≡ block_listing file n = cc in
-        (n, at, ap (λ (p : Name × Listing). p.0) y, ap (λ (p : Name × Listing). p.1) y))
-
-pub length-kept : (bs : List Block) (file : Name) (ns : List (Name × Nodes)) → map block_of bs ≡ block_listings file ns → length bs ≡ length ns
+pub length-kept : (bs : List TemplateBlock) (file : Name) (ns : List (Name × Nodes)) → map kept_block bs ≡ block_listings file ns → length bs ≡ length ns
 length-kept bs file ns same = sym (length-map-of bs) ∙ ap length same ∙ length-listings file ns
   where
-    length-map-of : (bs : List Block) → length (map block_of bs) ≡ length bs
+    length-map-of : (bs : List TemplateBlock) → length (map kept_block bs) ≡ length bs
     length-map-of [] = refl
     length-map-of (b ∷ bs) = ap suc (length-map-of bs)
 
     length-listings : (file : Name) (ns : List (Name × Nodes)) → length (block_listings file ns) ≡ length ns
     length-listings file [] = refl
     length-listings file (n ∷ ns) = ap suc (length-listings file ns)
-
-pub lent-block : (bs lent : List Block) (file : Name) (ns : List (Name × Nodes)) (k : ℕ) (b : Block) → lent ≡ bs → map block_of bs ≡ block_listings file ns → k < length lent → b ≡ get_or lent k b → (n : Name × Nodes) × (slice_get ns k ≡ Some n) × (b.name ≡ n.0) × (b.code ≡ listing_of file n.1)
-lent-block bs lent file ns k b e same lt is =
-    kept-block lent file ns k b (ap (map block_of) e ∙ same) lt is
 
 -- What each template extends stands at its position.
 
@@ -214,6 +156,7 @@ kept-climbable r ts lent_ts ps ups lent_ups is e f rises none placed =
     let known = found-placed (seen ts ps) ups rises placed in
     rw (is, e, f) (record {
       same = refl;
+      rises = rises;
       above = known;
       grounded = grounded (seen ts ps) none;
     })

@@ -51,7 +51,7 @@ there-beside r tree file choices own known kept n =
     ap₂ (λ x y. x || y) of_all of_own ∙ sym (either-there (component r n) (component_named one_off_name n (definitions tree.nodes)))
 
 pub beside-lacks : (r : Registry) (engine : Engine) (tree : Tree) (file : Name) (choices : BTreeMap (String Global) Choice Global) (own : List Kept) (body : Listing) → AreChosen r choices → r.engine ≡ engine → body.code ≡ nodes_code tree.nodes 0 → map kept_of own ≡ kept_all file tree.nodes → in_tree.blocks tree.nodes ≡ []
-    → (code_lacks engine (is_there choices own) body.code || list_any (λ c. code_lacks engine (is_there choices own) c.code.code) own) ≡ lacks_a_callee r.engine (is_component_beside r tree) tree.nodes
+    → (code_lacks engine (is_there choices own) body.code || list_any (λ c. code_lacks engine (is_there choices own) c.code.value.chunk.code) own) ≡ lacks_a_callee r.engine (is_component_beside r tree) tree.nodes
 beside-lacks r engine tree file choices own body known of code kept none =
     let there : is_there choices own ≡ is_component_beside r tree = fun_ext (there-beside r tree file choices own known kept) in
     codes_lack_as_tree engine (is_there choices own) file body own tree.nodes code kept none ∙ ap₂ (λ e f. lacks_a_callee e f tree.nodes) (sym of) there

@@ -20,7 +20,7 @@ use Rattle.tera_registry.specs.Choices.{chosen, improves, better_choice, is_tied
 use Rattle.tera_registry.proofs.Rows.{drop-at, take-more}
 use Rattle.tera_registry.proofs.Chosen.{tie-of}
 
-bytes_eq-flip : (a b : Name) → bytes_eq a b ≡ bytes_eq b a
+pub bytes_eq-flip : (a b : Name) → bytes_eq a b ≡ bytes_eq b a
 bytes_eq-flip a b =
     elim (cases_Bool (bytes_eq a b)) [
       | inl same ↦ same ∙ sym ((bytes_decides b a).1 (sym ((bytes_decides a b).0 same)))

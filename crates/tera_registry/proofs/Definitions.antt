@@ -73,7 +73,7 @@ kept-at file nodes cs k d c e at is =
 
 -- one component more
 pub kept-one : (file : Name) (old mid : List Kept) (c : Kept) (node : Read) (signature : Box Written Global) (body : Vec Read Global) (lent : Written) (xs : List Read) → node ≡ variant.Definition signature body → lent ≡ signature.value → xs ≡ body.items → mid ≡ old ++ c ∷ []
-    → ◌≡◌ {A = Result Definition Fault} (Ok (definition_of (signature_of lent))) (Ok c.definition) → c.code ≡ listing_of file (nodes_of xs) → map kept_of mid ≡ map kept_of old ++ map (kept_as file) (node_definitions (node_of node))
+    → ◌≡◌ {A = Result Definition Fault} (Ok (definition_of (signature_of lent))) (Ok c.definition) → c.code.value.chunk ≡ listing_of file (nodes_of xs) → map kept_of mid ≡ map kept_of old ++ map (kept_as file) (node_definitions (node_of node))
 kept-one file old mid c node signature body lent xs is s a e h g =
     let given : definition_of (signature_of lent) ≡ c.definition = cc in
     ap (map kept_of) e

@@ -12,7 +12,8 @@ use Rattle.tera_registry.specs.declared.lineage.Up.{Up}
 use Rattle.tera_registry.specs.declared.lineage.Up.TheVariants as up
 use Rattle.tera_registry.specs.Choices.{chosen, AreChosen}
 use Rattle.tera_registry.specs.Order.{Rises}
-use Rattle.tera_registry.specs.Links.{ArePlaced, IsLinked}
+use Rattle.tera_registry.specs.Links.{ArePlaced}
+use Rattle.tera_registry.specs.Bodies.{AreRooted}
 use Rattle.tera_registry.specs.Kept.{entries_of, seen}
 
 pub none-rises : (ts : List (Rc Stored Global)) → ts ≡ [] → Rises (entries_of ts)
@@ -25,11 +26,11 @@ bare-faultless ps = refl
 pub none-faultless : (ts : List (Rc Stored Global)) (ps : List (String Global)) → ts ≡ [] → first_fault (seen ts ps) [] (entries_of ts) ≡ None
 none-faultless ts ps e = rw e (bare-faultless ps)
 
-pub none-linked : (ts : List (Rc Stored Global)) (ps : List (String Global)) (roots : List ℕ) → ts ≡ [] → roots ≡ [] → IsLinked ts ps roots
-none-linked ts ps roots e f = rw (e, f) (record {
+pub none-rooted : (ts : List (Rc Stored Global)) (ps : List (String Global)) (roots : List ℕ) → ts ≡ [] → roots ≡ [] → AreRooted (seen ts ps) roots
+none-rooted ts ps roots e f = rw (e, f) (record {
   as_many = refl;
   inside = λ i k got. (let q : None ≡ Some k = got in cc);
-  those = λ i k t u got. (let q : None ≡ Some k = got in cc);
+  those = λ i k t got. (let q : None ≡ Some k = got in cc);
 })
 
 pub none-placed : (ts : List (Rc Stored Global)) (ps : List (String Global)) (ups : List Up) → ts ≡ [] → ups ≡ [] → ArePlaced (seen ts ps) ups

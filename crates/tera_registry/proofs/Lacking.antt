@@ -41,12 +41,12 @@ module _ (engine : Engine) (there : Name → Bool) where
   kept_lack file [] = refl
   kept_lack file (d ∷ ds) = ap₂ (λ x y. x || y) (code_lacks_as_nodes (nodes_code d.1 0) d.1 refl) (kept_lack file ds)
 
-  components_lack : (cs : List Component) → list_any (λ c. code_lacks engine there c.code.code) cs ≡ list_any (λ k. code_lacks engine there k.1.code) (map kept_of cs)
+  components_lack : (cs : List Component) → list_any (λ c. code_lacks engine there c.code.value.chunk.code) cs ≡ list_any (λ k. code_lacks engine there k.1.code) (map kept_of cs)
   components_lack [] = refl
-  components_lack (c ∷ cs) = ap (λ x. code_lacks engine there c.code.code || x) (components_lack cs)
+  components_lack (c ∷ cs) = ap (λ x. code_lacks engine there c.code.value.chunk.code || x) (components_lack cs)
 
   -- the code of nodes without blocks, with that of their components
-  pub codes_lack_as_tree : (file : Name) (body : Listing) (components : List Component) (nodes : Nodes) → body.code ≡ nodes_code nodes 0 → map kept_of components ≡ kept_all file nodes → in_tree.blocks nodes ≡ [] → (code_lacks engine there body.code || list_any (λ c. code_lacks engine there c.code.code) components) ≡ lacks_a_callee engine there nodes
+  pub codes_lack_as_tree : (file : Name) (body : Listing) (components : List Component) (nodes : Nodes) → body.code ≡ nodes_code nodes 0 → map kept_of components ≡ kept_all file nodes → in_tree.blocks nodes ≡ [] → (code_lacks engine there body.code || list_any (λ c. code_lacks engine there c.code.value.chunk.code) components) ≡ lacks_a_callee engine there nodes
   codes_lack_as_tree file body components nodes e g none =
       let of_components = components_lack components ∙ ap (list_any (λ k. code_lacks engine there k.1.code)) g ∙ kept_lack file (definitions nodes) in
       ap₂ (λ x y. x || y) (code_lacks_as_nodes body.code nodes e) of_components ∙ ap (λ bs. has_unknown engine there nodes || list_any (has_unknown engine there) (map (λ b. b.1) bs ++ map (λ d. d.1) (definitions nodes))) (sym none)

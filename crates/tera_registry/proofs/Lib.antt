@@ -3,6 +3,7 @@ pub mod Element
 pub mod Rows
 pub mod Placed
 pub mod Kept
+pub mod Standing
 pub mod Lacking
 pub mod Needing
 pub mod Resolved
@@ -26,7 +27,14 @@ pub mod Priorities
 pub mod Best
 pub mod Chosen
 pub mod Choosing
+pub mod Placing
 pub mod Definitions
+pub mod Taking
+pub mod Tabled
+pub mod Numbered
+pub mod Counted
+pub mod Aboves
+pub mod Handed
 pub mod Besides
 pub mod Leading
 pub mod Listed

@@ -2,14 +2,13 @@
 use Rattle.std.proofs.Common.{◌≡◌, ℕ, ◌+◌, ◌<◌, List, [], ◌∷◌, ◌++◌, length, map, get_or, option_map, Option, Some, None, String, Global, refl, sym, ap, ◌∙◌, inl, inr, arith, slice_get}
 use Rattle.std.specs.declared.rc.Rc.{Rc}
 use Rattle.std.proofs.lemmas.Option.{slice_get-get_or, slice_get-map, slice_get_within}
-use Rattle.tera_code.specs.Code.{listing_of}
 use Rattle.tera_meaning.specs.Registry.{Registry, Entry}
 use Rattle.tera_errors.specs.Site.{Name}
 use Rattle.tera_meaning.specs.Resolve.{resolve, root}
 use Rattle.tera_registry.specs.declared.template.Template.{Template as Stored}
 use Rattle.tera_registry.specs.declared.lineage.Up.{Up}
 use Rattle.tera_registry.specs.declared.lineage.Up.TheVariants as up
-use Rattle.tera_registry.specs.Links.{IsUp, AreUps, name_at, name_above, ArePlaced, Inside, AreRoots, IsLinked}
+use Rattle.tera_registry.specs.Links.{IsUp, AreUps, name_at, name_above, ArePlaced, Inside, AreRoots}
 use Rattle.tera_registry.specs.Kept.{entry_of, entries_of, seen}
 use Rattle.tera_registry.proofs.Element.{element}
 use Rattle.tera_registry.specs.Order.{Rises}
@@ -18,7 +17,7 @@ use Rattle.tera_registry.proofs.Resolved.{first-there-own}
 use Rattle.tera_registry.proofs.Rows.{get-push, length-push}
 
 -- what is so of what stands at each of so many positions is so of one more
-more : {X Y : Type 0} (Is : X → Y → Type 0) (ys : List Y) (xs : List X) (x : X) (many : ℕ) (y : Y) → length xs ≡ many → ((i : ℕ) (v : X) (w : Y) → slice_get xs i ≡ Some v → slice_get ys i ≡ Some w → Is v w) → slice_get ys many ≡ Some y → Is x y → (i : ℕ) (v : X) (w : Y) → slice_get (xs ++ x ∷ []) i ≡ Some v → slice_get ys i ≡ Some w → Is v w
+pub more : {X Y : Type 0} (Is : X → Y → Type 0) (ys : List Y) (xs : List X) (x : X) (many : ℕ) (y : Y) → length xs ≡ many → ((i : ℕ) (v : X) (w : Y) → slice_get xs i ≡ Some v → slice_get ys i ≡ Some w → Is v w) → slice_get ys many ≡ Some y → Is x y → (i : ℕ) (v : X) (w : Y) → slice_get (xs ++ x ∷ []) i ≡ Some v → slice_get ys i ≡ Some w → Is v w
 more Is ys xs x many y as_many those at is = λ i v w got w_at.
     elim (get-push xs x v i got) [
       | inl before ↦ those i v w before w_at
@@ -49,21 +48,6 @@ more-roots r roots k many t a at is = record {
 at-entry : (ts : List (Rc Stored Global)) (k : ℕ) (u : Rc Stored Global) → slice_get ts k ≡ Some u → slice_get (entries_of ts) k ≡ Some (entry_of u.value)
 at-entry ts k u at =
     slice_get-map (λ (v : Rc Stored Global). entry_of v.value) ts k ∙ ap (option_map (λ (v : Rc Stored Global). entry_of v.value)) at
-
--- each template's code is that of its nodes, so that at the position of a root is that of the root
-pub linked : (ts : List (Rc Stored Global)) (ps : List (String Global)) (roots : List ℕ) → AreRoots (seen ts ps) roots (length (entries_of ts)) → IsLinked ts ps roots
-linked ts ps roots a = record {
-  as_many = a.as_many ∙ length-entries ts;
-  inside = λ i k got.
-      (let lt = slice_get_within roots i k got in
-      let t = element (entries_of ts) i (omega (arith, a.as_many)) in
-      let within = slice_get_within (entries_of ts) k _ (a.those i k t.0 got t.1) in
-      omega (arith, length-entries ts));
-  those = λ i k t u got t_at u_at.
-      (let q : Some (root (seen ts ps) t) ≡ Some (entry_of u.value) = sym (a.those i k t got t_at) ∙ at-entry ts k u u_at in
-      let same : root (seen ts ps) t ≡ entry_of u.value = cc in
-      u.value.compiled ∙ ap (λ e. listing_of e.0 e.1.tree.nodes) (sym same));
-}
 
 pub ups-inside : (r : Registry) (ups : List Up) → AreUps r ups (length r.templates) → Inside ups
 ups-inside r ups a = record {

@@ -1,5 +1,5 @@
 -- The components of a whole registry by name, found in the table that templates and prefixes alone make.
-use Rattle.std.proofs.Common.{◌≡◌, ◌<◌, Bool, true, false, ◌||◌, cond, is_some, List, [], ◌∷◌, length, map, get_or, Some, None, Less, Global, String, string_bytes, refl, sym, ap, ◌∙◌, arith, slice_get}
+use Rattle.std.proofs.Common.{◌≡◌, ℕ, ◌+◌, ◌<◌, Bool, true, false, ◌||◌, cond, is_some, List, [], ◌∷◌, length, map, get_or, Some, None, Less, Global, String, string_bytes, refl, sym, ap, ◌∙◌, arith, slice_get}
 use Rattle.std.specs.declared.rc.Rc.{Rc}
 use Rattle.std.specs.declared.collections.BTreeMap.{BTreeMap}
 use Rattle.std.specs.BTreeMap.{keys, IsOrdered}
@@ -26,9 +26,16 @@ use Rattle.tera_registry.specs.declared.choices.Choice.{Choice}
 use Rattle.tera_registry.specs.declared.components.Component.{Component as Kept}
 use Rattle.tera_registry.specs.declared.template.Template.{Template as Stored}
 use Rattle.tera_registry.specs.declared.templates.Defined.{Defined}
+use Rattle.tera_registry.specs.declared.templates.Templates.{Templates}
 use Rattle.tera_registry.specs.Kept.{entry_of, entries_of}
-use Rattle.tera_registry.specs.Choices.{chosen_of, AreChosen}
-use Rattle.tera_registry.specs.Templates.{IsDefined}
+use Rattle.tera_registry.specs.Choices.{chosen, chosen_of, AreChosen, IsTaken}
+use Rattle.tera_code.specs.Code.{listing_of}
+use Rattle.tera_registry.specs.HandedOut.{code_of}
+use Rattle.tera_registry.specs.Bodies.{listings, start}
+use Rattle.tera_registry.specs.Definers.{blocks_of}
+use Rattle.tera_registry.specs.Templates.{IsDefined, registry_in, templates_of, with_templates}
+use Rattle.tera_registry.proofs.Ancestors.{length-kept}
+use Rattle.tera_registry.proofs.Tabled.{component-listing-at}
 use Rattle.tera_registry.proofs.Adds.{bare, chosen-same}
 use Rattle.tera_registry.proofs.Kept.{entry-at-position, length-entries}
 use Rattle.tera_registry.proofs.Definitions.{component-there, component-position, kept-within, kept-at}
@@ -40,7 +47,7 @@ chosen-in-all r choices known = λ n. known n ∙ chosen-same r n 0 r.templates 
 
 -- What is taken of a name stands at its position.
 
-pub taken-within : (r : Registry) (ts : List (Rc Stored Global)) (n : Name) (c : Choice) → r.templates ≡ entries_of ts → chosen_of r n ≡ Some c → c.template < length ts
+taken-within : (r : Registry) (ts : List (Rc Stored Global)) (n : Name) (c : Choice) → r.templates ≡ entries_of ts → chosen_of r n ≡ Some c → c.template < length ts
 taken-within r ts n c same e =
     let p = component-position r n c e in
     omega (arith, slice_get_within r.templates c.template p.template p.template_at, ap length same, length-entries ts)
@@ -51,7 +58,7 @@ pub record Taken (r : Registry) (n : Name) (c : Choice) (u : Stored) : Type 0 wh
   pub at : slice_get (definitions (nodes_of u.meant.nodes)) c.component ≡ Some definition
   pub is : component r n ≡ Some (record { file = string_bytes u.name; signature = definition.0; body = definition.1 })
 
-pub taken-in : (r : Registry) (ts : List (Rc Stored Global)) (n : Name) (c : Choice) (u : Rc Stored Global) → r.templates ≡ entries_of ts → chosen_of r n ≡ Some c → u ≡ get_or ts c.template u → Taken r n c u.value
+taken-in : (r : Registry) (ts : List (Rc Stored Global)) (n : Name) (c : Choice) (u : Rc Stored Global) → r.templates ≡ entries_of ts → chosen_of r n ≡ Some c → u ≡ get_or ts c.template u → Taken r n c u.value
 taken-in r ts n c u same e is =
     let p = component-position r n c e in
     let at = entry-at-position ts c.template u (taken-within r ts n c same e) is in
@@ -62,14 +69,54 @@ taken-in r ts n c u same e is =
       is = p.is ∙ ap (λ (t : Entry). Some (record { file = t.0; signature = p.definition.0; body = p.definition.1 })) kept;
     }
 
-pub taken-component-within : (r : Registry) (n : Name) (c : Choice) (u : Stored) → Taken r n c u → c.component < length u.components.items
+taken-component-within : (r : Registry) (n : Name) (c : Choice) (u : Stored) → Taken r n c u → c.component < length u.components.items
 taken-component-within r n c u t =
     kept-within (string_bytes u.name) (nodes_of u.meant.nodes) u.components.items c.component t.definition u.defined t.at
 
-pub taken-defined : (r : Registry) (n : Name) (c : Choice) (u : Stored) (k : Kept) (found : Defined) → Taken r n c u → k ≡ get_or u.components.items c.component k → found.definition.now ≡ k.definition → found.chunk.now ≡ k.code → IsDefined (component r n) (Some found)
+taken-defined : (r : Registry) (n : Name) (c : Choice) (u : Stored) (k : Kept) (found : Defined) (t : Taken r n c u) → k ≡ get_or u.components.items c.component k → found.definition.now ≡ k.definition → code_of found.body ≡ listing_of (string_bytes u.name) t.definition.1 → IsDefined (component r n) (Some found)
 taken-defined r n c u k found t is given code =
     let kept = kept-at (string_bytes u.name) (nodes_of u.meant.nodes) u.components.items c.component t.definition k u.defined t.at is in
-    rw t.is (record { given = given ∙ ap (λ (p : Definition × Listing). p.0) kept; code = code ∙ ap (λ (p : Definition × Listing). p.1) kept })
+    rw t.is (record { given = given ∙ ap (λ (p : Definition × Listing). p.0) kept; code = code })
+
+-- the code of its body, by the number
+component-number : (ts : List (Rc Stored Global)) (i k : ℕ) (u : Rc Stored Global) (d : Signature × Nodes) → i < length ts → u ≡ get_or ts i u → slice_get (definitions (nodes_of u.value.meant.nodes)) k ≡ Some d → slice_get (listings (entries_of ts)) (start (entries_of ts) i + (1 + length u.value.blocks.items + k)) ≡ Some (listing_of (string_bytes u.value.name) d.1)
+component-number ts i k u d lt is at =
+    let es = entries_of ts in
+    let t = entry_of u.value in
+    let many = length-kept u.value.blocks.items (string_bytes u.value.name) (blocks_of t) u.value.divided in
+    let n : start es i + (1 + length u.value.blocks.items + k) ≡ start es i + 1 + length (blocks_of t) + k = omega (arith, many) in
+    ap (slice_get (listings es)) n ∙ component-listing-at t es i k d (entry-at-position ts i u lt is) at
+
+-- the same where templates are linked
+module _ (self : Templates) (choice : Choice) (taken : IsTaken self.choices choice) where
+  chosen-so : chosen_of (registry_in self) taken.name ≡ Some choice
+  chosen-so = sym (self.chosen taken.name) ∙ taken.is
+
+  pub template-within : choice.template < length self.all.items
+  template-within = taken-within (registry_in self) self.all.items taken.name choice refl chosen-so
+
+  module _ (u : Rc Stored Global) (v : Stored) (is : u ≡ get_or self.all.items choice.template u) (value : v ≡ u.value) where
+    taken-so : Taken (registry_in self) taken.name choice u.value
+    taken-so = taken-in (registry_in self) self.all.items taken.name choice u refl chosen-so is
+
+    pub component-within : choice.component < length v.components.items
+    component-within = rw value (taken-component-within (registry_in self) taken.name choice u.value taken-so)
+
+    pub body-within : (many : ℕ) → many ≡ length v.blocks.items → start (templates_of self) choice.template + (1 + many + choice.component) < length (listings (templates_of self))
+    body-within many same =
+        let d = taken-so.definition in
+        let at = component-number self.all.items choice.template choice.component u d template-within is taken-so.at in
+        omega (arith, slice_get_within (listings (templates_of self)) _ _ at, same, ap (λ (s : Stored). length s.blocks.items) value)
+
+    pub defined-so : (r : Registry) (name : Name) (many : ℕ) (k : Kept) (found : Defined) → chosen self.choices name ≡ Some choice → many ≡ length v.blocks.items → k ≡ get_or v.components.items choice.component k → found.definition.now ≡ k.definition → slice_get (listings (templates_of self)) (start (templates_of self) choice.template + (1 + many + choice.component)) ≡ Some (code_of found.body) → IsDefined (component (with_templates r self) name) (Some found)
+    defined-so r name many k found named same k_is given at =
+        let q = with_templates r self in
+        let so : chosen_of q name ≡ Some choice = sym (chosen-in-all q self.choices self.chosen name) ∙ named in
+        let now = taken-in q self.all.items name choice u refl so is in
+        let as_many : many ≡ length u.value.blocks.items = same ∙ ap (λ (s : Stored). length s.blocks.items) value in
+        let s : Some (code_of found.body) ≡ Some (listing_of (string_bytes u.value.name) now.definition.1) = sym at ∙ ap (λ m. slice_get (listings (templates_of self)) (start (templates_of self) choice.template + (1 + m + choice.component))) as_many ∙ component-number self.all.items choice.template choice.component u now.definition template-within is now.at in
+        let code : code_of found.body ≡ listing_of (string_bytes u.value.name) now.definition.1 = cc in
+        taken-defined q name choice u.value k found now (rw value at k_is) given code
 
 -- The names, in the order of the table.
 

@@ -13,8 +13,7 @@ use Rattle.tera_built_ins.specs.Filters.{filter_named}
 use Rattle.tera_built_ins.specs.TestTable.{test_named}
 use Rattle.tera_built_ins.specs.FunctionTable.{function_named}
 use Rattle.tera_components.specs.Definition.{Definition}
-use Rattle.tera_code.specs.declared.blocks.Block.{Block}
-use Rattle.tera_code.specs.Blocks.{block_of, block_listings}
+use Rattle.tera_code.specs.Blocks.{block_listings}
 use Rattle.tera_code.specs.declared.instruction.Instruction.{Instruction}
 use Rattle.tera_code.specs.Listing.{Listing}
 use Rattle.tera_code.specs.Code.{Code, nodes_code, listing_of}
@@ -22,9 +21,10 @@ use Rattle.tera_code.specs.Called.{called_by, callees}
 use Rattle.tera_code.proofs.Callees.{code_calls_the_same}
 use Rattle.tera_objects.specs.Engine.{Engine, own_or_built_in}
 use Rattle.tera_meaning.specs.Known.{is_known, has_unknown, lacks_a_callee, bodies}
+use Rattle.tera_registry.specs.declared.code.TemplateBlock.{TemplateBlock}
 use Rattle.tera_registry.specs.declared.components.Component.{Component}
 use Rattle.tera_registry.specs.declared.needs.Need.{Need}
-use Rattle.tera_registry.specs.Components.{kept_of, kept_as, kept_all}
+use Rattle.tera_registry.specs.Components.{kept_block, kept_of, kept_as, kept_all}
 use Rattle.tera_registry.specs.Needs.{is_built_in, as_need, callee_needed, need_of, nodes_need, needs_of, is_unmet, needed_by, code_needs, bodies_need}
 use Rattle.tera_registry.proofs.Element.{element}
 use Rattle.tera_registry.proofs.Rows.{drop-at}
@@ -91,10 +91,10 @@ flat-append : {X : Type 0} (f : X → List Need) (xs ys : List X) → flat_map f
 flat-append f [] ys = refl
 flat-append f (x ∷ xs) ys = ap (λ l. f x ++ l) (flat-append f xs ys) ∙ sym (append_assoc (f x) (flat_map f xs) (flat_map f ys))
 
-pub bodies_need_as_tree : (file : Name) (body : Listing) (blocks : List Block) (components : List Component) (nodes : Nodes) → body ≡ listing_of file nodes → map block_of blocks ≡ block_listings file (in_tree.blocks nodes) → map kept_of components ≡ kept_all file nodes → bodies_need body blocks components ≡ needs_of nodes
+pub bodies_need_as_tree : (file : Name) (body : Listing) (blocks : List TemplateBlock) (components : List Component) (nodes : Nodes) → body ≡ listing_of file nodes → map kept_block blocks ≡ block_listings file (in_tree.blocks nodes) → map kept_of components ≡ kept_all file nodes → bodies_need body blocks components ≡ needs_of nodes
 bodies_need_as_tree file body blocks components nodes e f g =
     let own = code-needs-as-nodes body.code nodes (ap (λ l. l.code) e) in
-    let of_blocks = sym (flat_map-map (λ (b : Name × Listing). code_needs b.1.code) block_of blocks) ∙ ap (flat_map (λ b. code_needs b.1.code)) f ∙ blocks-need file (in_tree.blocks nodes) in
+    let of_blocks = sym (flat_map-map (λ (b : Name × Listing). code_needs b.1.code) kept_block blocks) ∙ ap (flat_map (λ b. code_needs b.1.code)) f ∙ blocks-need file (in_tree.blocks nodes) in
     let of_components = sym (flat_map-map (λ (k : Definition × Listing). code_needs k.1.code) kept_of components) ∙ ap (flat_map (λ k. code_needs k.1.code)) g ∙ kept-need file nodes in
     let bs = map (λ b. b.1) (in_tree.blocks nodes) in
     let ds = map (λ d. d.1) (definitions nodes) in

@@ -27,7 +27,7 @@ pub itself : (a : Name) → name_cmp a a ≡ Equal
 itself a = tied_itself names_total a
 
 -- a lesser name is another name
-apart : (n k : Name) → name_cmp k n ≡ Less → bytes_eq n k ≡ false
+pub apart : (n k : Name) → name_cmp k n ≡ Less → bytes_eq n k ≡ false
 apart n k less =
     elim (cases_Bool (bytes_eq n k)) [
       | inl same ↦

@@ -1,5 +1,5 @@
 -- Code that calls what is not there.
-use Rattle.std.specs.Prelude.{Bool, false, not, ◌||◌, is_some, bytes_eq, List, Option, Some, None, String}
+use Rattle.std.specs.Prelude.{Bool, false, not, ◌||◌, is_some, bytes_eq, List, [], Option, Some, None, String}
 use Rattle.std.specs.List.{list_any}
 use Rattle.std.specs.declared.alloc.Global.{Global}
 use Rattle.std.specs.declared.collections.BTreeMap.{BTreeMap}
@@ -12,7 +12,13 @@ use Rattle.tera_objects.specs.Engine.{Engine}
 use Rattle.tera_meaning.specs.Known.{is_known}
 use Rattle.tera_registry.specs.declared.choices.Choice.{Choice}
 use Rattle.tera_registry.specs.declared.components.Component.{Component}
+use Rattle.tera_registry.specs.declared.own.Own.{Own}
 use Rattle.tera_registry.specs.Choices.{chosen}
+
+-- the components of a text beside the templates, where there is one
+abbrev pub beside : Option Own → List Component
+beside None = []
+beside (Some own) = own.components.now
 
 -- whether a component is taken of a name, or is one of these
 abbrev pub is_there : BTreeMap (String Global) Choice Global → List Component → Name → Bool

@@ -3,6 +3,7 @@ pub mod Positions
 pub mod Coding
 pub mod Kept
 pub mod Components
+pub mod Places
 pub mod Choices
 pub mod Known
 pub mod Naming
@@ -15,7 +16,11 @@ pub mod Edges
 pub mod Reached
 pub mod Links
 pub mod Definers
+pub mod Takes
+pub mod Bodies
+pub mod Numbers
 pub mod References
-pub mod LinkTable
+pub mod Linking
+pub mod HandedOut
 pub mod Templates
 pub mod Prelude

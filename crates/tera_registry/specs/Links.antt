@@ -1,7 +1,5 @@
 -- What templates are linked to, by position. No public contract speaks of it.
-use Rattle.std.specs.Prelude.{◌≡◌, ◌<◌, ◌≤◌, ◌+◌, ℕ, List, [], ◌∷◌, length, map, slice_get, Option, Some, None, option_map, Result, Ok, Err, String}
-use Rattle.std.specs.declared.alloc.Global.{Global}
-use Rattle.std.specs.declared.rc.Rc.{Rc}
+use Rattle.std.specs.Prelude.{◌≡◌, ◌<◌, ◌≤◌, ◌+◌, ℕ, List, [], ◌∷◌, length, map, slice_get, Option, Some, None, option_map, Result, Ok, Err}
 use Rattle.tera_errors.specs.Site.{Name}
 use Rattle.tera_errors.specs.Fault.{Fault, circular_extend}
 use Rattle.tera_errors.specs.Answer.{SeenError, Says}
@@ -9,13 +7,10 @@ use Rattle.tera_meaning.specs.Registry.{Entry, Registry}
 use Rattle.tera_meaning.specs.Resolve.{resolve, parents, root, last_of}
 use Rattle.tera_meaning.specs.Accepted.{first_fault}
 use Rattle.tera_meaning.specs.Adding.{unless_faulty}
-use Rattle.tera_code.specs.Code.{listing_of}
-use Rattle.tera_registry.specs.declared.template.Template.{Template as Stored}
 use Rattle.tera_registry.specs.declared.lineage.Top.{Top}
 use Rattle.tera_registry.specs.declared.lineage.Up.{Up}
 use Rattle.tera_registry.specs.declared.lineage.Up.TheVariants as up
 use Rattle.tera_registry.specs.Positions.{IsPosition}
-use Rattle.tera_registry.specs.Kept.{entries_of, seen}
 
 -- a registry in which each template has all its parents, or the first fault of one
 abbrev pub climbed : Registry → Result Registry Fault
@@ -92,12 +87,3 @@ pub record AreRoots (r : Registry) (roots : List ℕ) (many : ℕ) : Type 0 wher
   pub as_many : length roots ≡ many
   pub those : (i k : ℕ) (t : Entry) → slice_get roots i ≡ Some k → slice_get r.templates i ≡ Some t
       → slice_get r.templates k ≡ Some (root r t)
-
--- the code at the position of each template's root is that of its root
-pub record IsLinked (ts : List (Rc Stored Global)) (ps : List (String Global))
-    (roots : List ℕ) : Type 0 where
-  pub as_many : length roots ≡ length ts
-  pub inside : (i k : ℕ) → slice_get roots i ≡ Some k → k < length ts
-  pub those : (i k : ℕ) (t : Entry) (u : Rc Stored Global) → slice_get roots i ≡ Some k
-      → slice_get (entries_of ts) i ≡ Some t → slice_get ts k ≡ Some u
-      → u.value.body ≡ listing_of (root (seen ts ps) t).0 (root (seen ts ps) t).1.tree.nodes

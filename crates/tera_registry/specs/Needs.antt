@@ -7,13 +7,13 @@ use Rattle.tera_syntax_tree.specs.Calls.{Callee, AFilter, ATest, AFunction, ACom
 use Rattle.tera_built_ins.specs.Filters.{filter_named}
 use Rattle.tera_built_ins.specs.TestTable.{test_named}
 use Rattle.tera_built_ins.specs.FunctionTable.{function_named}
-use Rattle.tera_code.specs.declared.blocks.Block.{Block}
 use Rattle.tera_code.specs.declared.instruction.Instruction.{Instruction}
 use Rattle.tera_code.specs.Listing.{Listing}
 use Rattle.tera_code.specs.Code.{Code}
 use Rattle.tera_code.specs.Called.{called_by}
 use Rattle.tera_objects.specs.Engine.{Engine}
 use Rattle.tera_meaning.specs.Known.{is_known, bodies}
+use Rattle.tera_registry.specs.declared.code.TemplateBlock.{TemplateBlock}
 use Rattle.tera_registry.specs.declared.components.Component.{Component}
 use Rattle.tera_registry.specs.declared.needs.Need.{Need}
 use Rattle.tera_registry.specs.declared.needs.Need.TheVariants as need
@@ -61,7 +61,7 @@ abbrev pub code_needs : Code → List Need
 code_needs = filter_map needed_by
 
 -- what the code of a body needs, then that of blocks, then that of components
-abbrev pub bodies_need : Listing → List Block → List Component → List Need
+abbrev pub bodies_need : Listing → List TemplateBlock → List Component → List Need
 bodies_need body blocks components =
-    (code_needs body.code ++ flat_map (λ b. code_needs b.code.code) blocks)
-    ++ flat_map (λ c. code_needs c.code.code) components
+    (code_needs body.code ++ flat_map (λ b. code_needs b.code.value.chunk.code) blocks)
+    ++ flat_map (λ c. code_needs c.code.value.chunk.code) components

@@ -1,37 +1,69 @@
 -- What the references of code lead to. No public contract speaks of it.
-use Rattle.std.specs.Prelude.{◌≡◌, ◌<◌, List, length, map, slice_get, option_map, Some, String, Vec}
-use Rattle.std.specs.List.{All}
+use Rattle.std.specs.Prelude.{◌≡◌, ◌<◌, ℕ, true, false, List, length, map, slice_get, option_map, Option, Some, None, String}
 use Rattle.std.specs.Coded.{codes}
 use Rattle.std.specs.declared.alloc.Global.{Global}
 use Rattle.std.specs.declared.collections.BTreeMap.{BTreeMap}
 use Rattle.tera_errors.specs.Site.{Name}
+use Rattle.tera_code.specs.Listing.{Listing}
 use Rattle.tera_meaning.specs.Registry.{Registry}
 use Rattle.tera_meaning.specs.Resolve.{resolve}
 use Rattle.tera_registry.specs.contracts.choices.Choice as choice
 use Rattle.tera_registry.specs.declared.choices.Choice.{Choice}
-use Rattle.tera_registry.specs.declared.links.Destination.{Destination}
-use Rattle.tera_registry.specs.declared.links.Destination.TheVariants as destination
-use Rattle.tera_registry.specs.declared.links.Link.{Link}
+use Rattle.tera_registry.specs.declared.code.Take.{Take}
+use Rattle.tera_registry.specs.declared.table.Entry.{Entry}
+use Rattle.tera_registry.specs.declared.table.Link.{Link}
+use Rattle.tera_registry.specs.declared.table.Link.TheVariants as link
 use Rattle.tera_registry.specs.Choices.{chosen}
 
--- What a name leads to: the position of the template to which it resolves, said by names, since no
--- two templates share one; or what is taken of the component.
-abbrev pub LeadsTo : Registry → BTreeMap (String Global) Choice Global → Name → Destination → Type 0
-LeadsTo r choices name (destination.Template position) =
+-- The position of the template to which a name resolves, or none where there is none. It is said by
+-- names, since no two templates share one.
+abbrev pub IsPlace : Registry → Name → Option ℕ → Type 0
+IsPlace r name None = option_map (λ t. t.0) (resolve r name) ≡ None
+IsPlace r name (Some position) =
     (slice_get (map (λ t. t.0) r.templates) position ≡ option_map (λ t. t.0) (resolve r name))
     × (position < length r.templates)
-LeadsTo r choices name (destination.Component taken) = chosen choices name ≡ Some taken
 
-pub LeadsTo-prop : (r : Registry) (choices : BTreeMap (String Global) Choice Global) (name : Name)
-    (to : Destination) → IsProp (LeadsTo r choices name to)
-LeadsTo-prop r choices name (destination.Template position) = Prim.hlevel codes
-LeadsTo-prop r choices name (destination.Component taken) =
+-- what code takes leads to that template, or to what is taken of the component
+abbrev pub LeadsTo : Registry → BTreeMap (String Global) Choice Global → Take → Link → Type 0
+LeadsTo r choices take (link.Template position) =
+    (take.is_component ≡ false) × IsPlace r take.name position
+LeadsTo r choices take (link.Component taken) =
+    (take.is_component ≡ true) × (chosen choices take.name ≡ taken)
+
+abbrev pub place_of : Link → Option ℕ
+place_of (link.Template position) = position
+place_of (link.Component taken) = None
+
+abbrev pub choice_of : Link → Option Choice
+choice_of (link.Template position) = None
+choice_of (link.Component taken) = taken
+
+-- the first so many of what code takes lead there
+pub record AreLinks (r : Registry) (choices : BTreeMap (String Global) Choice Global)
+    (takes : List Take) (links : List Link) (many : ℕ) : Type 0 where
+  pub as_many : length links ≡ many
+  pub those : (i : ℕ) (l : Link) (t : Take) → slice_get links i ≡ Some l
+      → slice_get takes i ≡ Some t → LeadsTo r choices t l
+
+-- the code of an entry
+abbrev pub chunk_of : Entry → Listing
+chunk_of e = e.code.value.chunk
+
+-- all that its code takes leads to what stands at its number
+abbrev pub IsLinked : Registry → BTreeMap (String Global) Choice Global → Entry → Type 0
+IsLinked r choices e =
+    AreLinks r choices e.code.value.takes.items e.links.items (length e.code.value.takes.items)
+
+IsPlace-prop : (r : Registry) (name : Name) (position : Option ℕ) → IsProp (IsPlace r name position)
+IsPlace-prop r name None = Prim.hlevel codes
+IsPlace-prop r name (Some position) = Prim.hlevel codes
+
+LeadsTo-prop : (r : Registry) (choices : BTreeMap (String Global) Choice Global) (take : Take)
+    (to : Link) → IsProp (LeadsTo r choices take to)
+LeadsTo-prop r choices take (link.Template position) = Prim.hlevel (codes, IsPlace-prop)
+LeadsTo-prop r choices take (link.Component taken) =
     Prim.hlevel (codes, choice.the_row.coded)
 
--- each of these leads to what its name stands for
-abbrev pub AreRight : Registry → BTreeMap (String Global) Choice Global → List Link → Type 0
-AreRight r choices = All (λ l. LeadsTo r choices l.name l.to)
-
-abbrev pub AreAllRight : Registry → BTreeMap (String Global) Choice Global
-    → List (Vec Link Global) → Type 0
-AreAllRight r choices = All (λ links. AreRight r choices links.items)
+pub IsLinked-prop : (r : Registry) (choices : BTreeMap (String Global) Choice Global)
+    (e : Entry) → IsProp (IsLinked r choices e)
+IsLinked-prop r choices e = Prim.hlevel (codes, LeadsTo-prop)

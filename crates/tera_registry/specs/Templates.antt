@@ -1,9 +1,9 @@
 -- What definitions see of all templates.
-use Rattle.std.specs.Prelude.{◌≡◌, Bool, true, false, List, [], ◌∷◌, map, string_bytes, Option, Some, None, cond}
+use Rattle.std.specs.Prelude.{◌≡◌, ℕ, Bool, true, false, List, [], ◌∷◌, map, string_bytes, Option, Some, None, option_map}
 use Rattle.tera_errors.specs.Site.{Text, Name}
 use Rattle.tera_values.specs.Named.{Named}
 use Rattle.tera_meaning.specs.Registry.{Template, Entry, Registry}
-use Rattle.tera_meaning.specs.Resolve.{resolve, root}
+use Rattle.tera_meaning.specs.Resolve.{resolve}
 use Rattle.tera_meaning.specs.Lineage.{Definer}
 use Rattle.tera_meaning.specs.Components.{Component}
 use Rattle.tera_components.specs.Definition.{definition_of}
@@ -15,7 +15,8 @@ use Rattle.tera_registry.specs.declared.templates.Definers.{Definers}
 use Rattle.tera_registry.specs.declared.templates.Definer.{Definer as Nearest}
 use Rattle.tera_registry.specs.declared.templates.Defined.{Defined}
 use Rattle.tera_registry.specs.Kept.{entries_of, seen}
-use Rattle.tera_registry.specs.Definers.{from_position, above_position}
+use Rattle.tera_registry.specs.HandedOut.{code_of}
+use Rattle.tera_registry.specs.Numbers.{from_number}
 
 abbrev pub templates_of : Templates → Named Template
 templates_of t = entries_of t.all.items
@@ -31,14 +32,11 @@ is_empty (a ∷ as') = false
 abbrev pub with_templates : Registry → Templates → Registry
 with_templates r t = record r { templates = templates_of t; prefixes = prefixes_of t }
 
--- what is found is the template: its name, the code of the nodes that a rendering of it begins
--- with, and that of its own
+-- what is found is the template, by its name
 pub record Leads (r : Registry) (name : Name) (found : FoundTemplate) : Type 0 where
   pub entry : Entry
   pub resolves : resolve r name ≡ Some entry
   pub named : found.name.now ≡ entry.0
-  pub code : found.chunk.now ≡ listing_of (root r entry).0 (root r entry).1.tree.nodes
-  pub own : found.body.now ≡ listing_of entry.0 entry.1.tree.nodes
   pub among : with_templates r found.templates.now ≡ r
 
 -- what is found under a name
@@ -50,21 +48,31 @@ Finds r name (Some found) = Leads r name found
 abbrev pub registry_in : Templates → Registry
 registry_in t = seen t.all.items t.prefixes.items
 
+abbrev pub AreAmongStarts : Registry → Option Start → Type 0
+AreAmongStarts r None = Unit {0}
+AreAmongStarts r (Some s) = with_templates r s.templates.now ≡ r
+
 abbrev pub started : Option Start → List Definer
 started None = []
-started (Some s) =
-    cond s.is_above (above_position (registry_in s.templates.now) s.at)
-    (from_position (registry_in s.templates.now) s.at)
+started (Some s) = from_number (registry_in s.templates.now) s.number
 
 -- those who define a block, nearest first
 abbrev pub definers_of : Definers → List Definer
 definers_of ds = started ds.start
 
+-- the number of the body of the first of them
+abbrev pub first_number_of : Definers → Option ℕ
+first_number_of ds = option_map (λ s. s.number) ds.start
+
+-- the templates among which they stand are those of the registry
+abbrev pub AreAmong : Registry → Definers → Type 0
+AreAmong r ds = AreAmongStarts r ds.start
+
 -- the first of those who define a block, with its code, and those above it
 pub record IsNearest (ds : List Definer) (nearest : Nearest) : Type 0 where
   pub definer : Definer
   pub is : ds ≡ definer ∷ definers_of nearest.above
-  pub code : nearest.chunk.now ≡ listing_of definer.file definer.body
+  pub code : code_of nearest.body ≡ listing_of definer.file definer.body
 
 -- the first of those who define a block, if there is one
 abbrev pub AreNext : List Definer → Option Nearest → Type 0
@@ -75,7 +83,7 @@ AreNext ds (Some nearest) = IsNearest ds nearest
 -- its template
 pub record IsKept (c : Component) (found : Defined) : Type 0 where
   pub given : found.definition.now ≡ definition_of c.signature
-  pub code : found.chunk.now ≡ listing_of c.file c.body
+  pub code : code_of found.body ≡ listing_of c.file c.body
 
 -- what is found of the component of a name
 abbrev pub IsDefined : Option Component → Option Defined → Type 0

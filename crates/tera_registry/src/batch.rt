@@ -1,5 +1,5 @@
 // A batch of texts that is read, and put among templates.
-ghost use Rattle.std.specs.Prelude.{◌≡◌, IfOk, IfErr, IsTrue, map, option_map, string_bytes};
+ghost use Rattle.std.specs.Prelude.{◌≡◌, ◌++◌, ◌∷◌, [], OnOk, IfOk, IfErr, IsTrue, map, option_map, string_bytes};
 ghost use Rattle.tera_errors.specs.Prelude.{GivesOneOf, Lacks};
 ghost use Rattle.tera_syntax_tree.specs.Blocks as in_tree;
 ghost use Rattle.tera_syntax_tree.specs.Prelude.{delimiters_of, accepted, nodes_of, quoted_option, tree_of};
@@ -8,21 +8,23 @@ ghost use Rattle.tera_values.specs.Prelude.{Named, put_all};
 ghost use Rattle.tera_meaning.specs.Registry.{Template as Meaning};
 ghost use Rattle.tera_registry.specs.Batch.{pairs_of};
 ghost use Rattle.tera_registry.specs.Put.{Makes, Puts};
-ghost use Rattle.tera_registry.specs.Components.{kept_of, kept_all};
+ghost use Rattle.tera_registry.specs.Components.{kept_block, kept_of, kept_all};
 ghost use Rattle.tera_registry.specs.Kept.{Rises, entry_of, entries_of};
 ghost use Rattle.tera_registry.specs.Needs.{needs_of};
 
+use crate::code::{Code, TemplateBlock};
 use crate::components::{Component, components};
 use crate::meant::Meant;
 use crate::merge::{merged, sorted};
 use crate::names::put;
 use crate::naming::{Naming, names_in};
 use crate::needs::{Need, needs};
+use crate::places::block_places;
 use crate::template::Template;
 use std::alloc::{AllocError, Global};
 use std::rc::Rc;
 use tera_code::blocks::blocks;
-use tera_code::{Block, Chunk, compiled};
+use tera_code::{Block, compiled};
 use tera_errors::TeraResult;
 use tera_syntax::parse;
 use tera_syntax_tree::{Delimiters, Node, ParserOutput, Quoted};
@@ -101,30 +103,31 @@ fn made(alloc: Global, output: &ParserOutput, name: &str, text: &str) -> TeraRes
 /// The code of a template, and what that needs.
 #[derive(Drop)]
 struct TemplateCode {
-    body: Chunk,
-    blocks: Vec<Block>,
+    body: Rc<Code>,
+    blocks: Vec<TemplateBlock>,
     components: Vec<Component>,
     needs: Vec<Need>,
 }
 
 /// What the nodes of the template of this name are compiled to.
 fn code_of(alloc: Global, name: &str, nodes: &[Node]) -> TeraResult<TemplateCode>
-    ensures body { IfOk result (λ c. c.body ≡ listing_of name.now (nodes_of nodes.now)) }
-    ensures blocks { IfOk result (λ c. map block_of c.blocks.items
+    ensures body { IfOk result
+        (λ c. c.body.value.chunk ≡ listing_of name.now (nodes_of nodes.now)) }
+    ensures blocks { IfOk result (λ c. map kept_block c.blocks.items
         ≡ block_listings name.now (in_tree.blocks (nodes_of nodes.now))) }
     ensures components { IfOk result (λ c. map kept_of c.components.items
         ≡ kept_all name.now (nodes_of nodes.now)) }
     ensures needs { IfOk result (λ c. c.needs.items ≡ needs_of (nodes_of nodes.now)) }
     ensures lacks { IfErr result Lacks }
 {
-    let body = compiled(alloc, name, nodes)?;
-    let blocks = blocks(alloc, name, nodes)?;
+    let body = Code::new(alloc, compiled(alloc, name, nodes)?)?;
+    let blocks = kept_blocks(alloc, blocks(alloc, name, nodes)?)?;
     let components = components(alloc, name, nodes)?;
     let needs = needs(
         alloc,
         nodes,
         name,
-        &body,
+        &body.chunk,
         blocks.as_slice(),
         components.as_slice(),
     )?;
@@ -136,6 +139,30 @@ fn code_of(alloc: Global, name: &str, nodes: &[Node]) -> TeraResult<TemplateCode
     })
 }
 
+/// The blocks as they are kept.
+fn kept_blocks(alloc: Global, blocks: Vec<Block>) -> TeraResult<Vec<TemplateBlock>>
+    ensures ok { IfOk result (λ v. map kept_block v.items ≡ map block_of blocks.items) }
+    ensures lacks { IfErr result Lacks }
+{
+    let mut kept = Vec::new(alloc);
+    for block in blocks {
+        keep(alloc, block, &mut kept)?;
+    }
+    Ok(kept)
+}
+
+/// Puts the block behind those that are kept.
+fn keep(alloc: Global, block: Block, kept: &mut Vec<TemplateBlock>) -> TeraResult<()>
+    ensures ok { OnOk result
+        (map kept_block kept.new.items ≡ map kept_block kept.old.items ++ block_of block ∷ []) }
+    ensures lacks { IfErr result Lacks }
+{
+    let Block { name, code } = block;
+    let code = Code::new(alloc, code)?;
+    kept.push(TemplateBlock { name, code })?;
+    Ok(())
+}
+
 /// The template of a name and a text that was read to this, with its code.
 fn assembled(
     alloc: Global,
@@ -144,8 +171,8 @@ fn assembled(
     text: &str,
     code: TemplateCode,
 ) -> TeraResult<Template>
-    requires body { code.body ≡ listing_of name.now (nodes_of output.now.nodes.items) }
-    requires blocks { map block_of code.blocks.items
+    requires body { code.body.value.chunk ≡ listing_of name.now (nodes_of output.now.nodes.items) }
+    requires blocks { map kept_block code.blocks.items
         ≡ block_listings name.now (in_tree.blocks (nodes_of output.now.nodes.items)) }
     requires components { map kept_of code.components.items
         ≡ kept_all name.now (nodes_of output.now.nodes.items) }
@@ -161,6 +188,7 @@ fn assembled(
         components,
         needs,
     } = code;
+    let places = block_places(alloc, blocks.as_slice())?;
     let tops = names_in(alloc, Naming::TopBlocks, nodes)?;
     let includes = names_in(alloc, Naming::Includes, nodes)?;
     let free = free(alloc, nodes)?;
@@ -170,6 +198,7 @@ fn assembled(
         parent: owned(alloc, &output.parent)?,
         body,
         blocks,
+        places,
         tops,
         includes,
         free,

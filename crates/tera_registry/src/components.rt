@@ -4,8 +4,10 @@ ghost use Rattle.tera_errors.specs.Prelude.{Lacks};
 ghost use Rattle.tera_syntax_tree.specs.Prelude.{node_definitions, node_of, nodes_of};
 ghost use Rattle.tera_registry.specs.Components.{kept_of, kept_as, kept_all};
 
+use crate::code::Code;
 use std::alloc::Global;
-use tera_code::{Chunk, compiled};
+use std::rc::Rc;
+use tera_code::compiled;
 use tera_components::ComponentDefinition;
 use tera_errors::TeraResult;
 use tera_syntax_tree::Node;
@@ -14,7 +16,7 @@ use tera_syntax_tree::Node;
 #[derive(Drop)]
 pub struct Component {
     pub definition: ComponentDefinition,
-    pub code: Chunk,
+    pub code: Rc<Code>,
 }
 
 /// The components that the nodes define, which stand in the text of the template of this name, in the order of the text.
@@ -40,7 +42,7 @@ fn add(alloc: Global, node: &Node, file: &str, found: &mut Vec<Component>) -> Te
     match node {
         Node::Definition { body, signature } => {
             let definition = ComponentDefinition::new(alloc, signature)?;
-            let code = compiled(alloc, file, body.as_slice())?;
+            let code = Code::new(alloc, compiled(alloc, file, body.as_slice())?)?;
             found.push(Component { definition, code })?;
             Ok(())
         }

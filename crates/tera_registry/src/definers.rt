@@ -1,14 +1,15 @@
 // Who defines a block for a template, and which blocks are lost.
-ghost use Rattle.std.specs.Prelude.{◌≡◌, ◌<◌, [], ◌∷◌, length, slice_get, Some};
+ghost use Rattle.std.specs.Prelude.{◌≡◌, ◌<◌, [], ◌∷◌, length, slice_get, option_map, Some, IfSome};
 ghost use Rattle.std.specs.List.{list_any};
-ghost use Rattle.tera_meaning.specs.Prelude.{loses_a_block, lacks_something, is_component, includes_of, misses_an_include, lacks_a_callee, ancestors, definers_in, Entry, Registry, entry_at};
+ghost use Rattle.tera_meaning.specs.Prelude.{loses_a_block, lacks_something, is_component, includes_of, misses_an_include, lacks_a_callee, ancestors, Entry, Registry};
 ghost use Rattle.tera_registry.specs.Choices.{AreChosen};
-ghost use Rattle.tera_registry.specs.Definers.{IsFirst, Climbable, blocks_of};
+ghost use Rattle.tera_registry.specs.Definers.{Climbable, names_of};
 ghost use Rattle.tera_registry.specs.Edges.{AreEdges};
-ghost use Rattle.tera_registry.specs.Positions.{IsPosition};
 ghost use Rattle.tera_registry.specs.Kept.{entry_of};
 ghost use Rattle.tera_registry.specs.Known.{is_there};
 ghost use Rattle.tera_registry.specs.Needs.{is_unmet};
+ghost use Rattle.tera_registry.specs.Numbers.{first_of, lineage, number_at};
+ghost use Rattle.tera_registry.specs.Places.{place_from};
 ghost use Rattle.tera_registry.specs.Walks.{rows};
 
 use crate::choices::Choice;
@@ -30,15 +31,10 @@ pub struct At {
 
 /// Where a block of this name stands among those of a template.
 fn own(template: &Template, block: &Sought<'_>) -> Option<usize>
-    ensures { IsPosition (blocks_of (entry_of template.now)) result
-        (entry_at block.now (blocks_of (entry_of template.now))) }
+    ensures { result ≡ place_from block.now 0 (names_of (entry_of template.now)) }
 {
-    for position in 0..template.blocks.len() {
-        if block.is(&template.blocks[position].name) {
-            return Some(position);
-        }
-    }
-    None
+    let position = template.places.get(block.as_str())?;
+    Some(*position)
 }
 
 /// Where the first of those stands who define a block, from a template on: itself, then its parents.
@@ -46,9 +42,10 @@ pub fn first(templates: &[Rc<Template>], ups: &[Up], from: usize, block: &Sought
     ghost registry: { Registry }
     requires climbable { Climbable registry templates.now ups.now }
     requires there { from < length templates.now }
-    ensures { (t : Entry) → slice_get registry.templates from ≡ Some t
-        → IsFirst registry result
-        (definers_in block.now (t ∷ ancestors registry t)) }
+    ensures there { IfSome result (λ at. at.template < length templates.now) }
+    ensures number { (t : Entry) → slice_get registry.templates from ≡ Some t
+        → option_map (number_at registry.templates) result
+        ≡ first_of (lineage registry block.now (t ∷ ancestors registry t)) }
 {
     let mut last = from;
     'up: loop {
@@ -77,8 +74,10 @@ pub fn first_above(
     ghost registry: { Registry }
     requires climbable { Climbable registry templates.now ups.now }
     requires there { of < length templates.now }
-    ensures { (t : Entry) → slice_get registry.templates of ≡ Some t
-        → IsFirst registry result (definers_in block.now (ancestors registry t)) }
+    ensures there { IfSome result (λ at. at.template < length templates.now) }
+    ensures number { (t : Entry) → slice_get registry.templates of ≡ Some t
+        → option_map (number_at registry.templates) result
+        ≡ first_of (lineage registry block.now (ancestors registry t)) }
 {
     match ups[of] {
         Up::At(next) => first(templates, ups, next, block),
@@ -121,7 +120,7 @@ fn misses(of: &Template, included: usize) -> bool
 fn is_unmet<O: Objects>(objects: &O, choices: &BTreeMap<String, Choice>, need: &Need) -> bool
     ensures { result ≡ is_unmet (O.engine objects.now) (is_there choices.now []) need.now }
 {
-    !is_known(objects, choices, &[], need.callee())
+    !is_known(objects, choices, None, need.callee())
 }
 
 /// Whether something of what is needed is not there.

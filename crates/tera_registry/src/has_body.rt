@@ -1,33 +1,33 @@
 // What has a body of its own in a template.
-ghost use Rattle.std.specs.Prelude.{◌≡◌, List};
-ghost use Rattle.tera_registry.specs.declared.needs.Need.{Need};
-ghost use Rattle.tera_registry.specs.Needs.{code_needs};
+ghost use Rattle.std.specs.Prelude.{◌≡◌};
+ghost use Rattle.tera_code.specs.Listing.{Listing};
 
+use crate::code::{Code, TemplateBlock};
 use crate::components::Component;
-use tera_code::{Block, Chunk};
+use std::rc::Rc;
 
 /// A block or a component of a template: its body has code of its own.
 pub trait HasBody: Drop {
-    // What its code needs.
-    ghost needs: { Self → List Need };
+    // That code.
+    ghost listing: { Self → Listing };
 
     /// The code of its body.
-    fn body(&self) -> &Chunk
-        ensures { code_needs result.now.code ≡ needs self.now };
+    fn code(&self) -> &Rc<Code>
+        ensures { result.now.value.chunk ≡ listing self.now };
 }
 
-impl HasBody for Block {
-    ghost needs = { λ b. code_needs b.code.code };
+impl HasBody for TemplateBlock {
+    ghost listing = { λ b. b.code.value.chunk };
 
-    fn body(&self) -> &Chunk {
+    fn code(&self) -> &Rc<Code> {
         &self.code
     }
 }
 
 impl HasBody for Component {
-    ghost needs = { λ c. code_needs c.code.code };
+    ghost listing = { λ c. c.code.value.chunk };
 
-    fn body(&self) -> &Chunk {
+    fn code(&self) -> &Rc<Code> {
         &self.code
     }
 }

@@ -1,27 +1,30 @@
 // What is called and is not there.
-ghost use Rattle.std.specs.Prelude.{◌≡◌, bytes_eq, option_and_then, slice_get};
+ghost use Rattle.std.specs.Prelude.{◌≡◌, bytes_eq, Option, option_and_then, slice_get};
 ghost use Rattle.std.specs.List.{list_any};
 ghost use Rattle.tera_code.specs.Prelude.{callee_of, called_by};
 ghost use Rattle.tera_meaning.specs.Prelude.{is_known};
-ghost use Rattle.tera_registry.specs.Known.{is_there, is_missing, code_lacks};
+ghost use Rattle.tera_registry.specs.Known.{beside, is_there, is_missing, code_lacks};
 
 use crate::choices::Choice;
-use crate::components::Component;
+use crate::code::Code;
+use crate::own::Own;
 use std::collections::BTreeMap;
 use tera_code::{Callee, Chunk};
 use tera_objects::Objects;
 
-/// Whether one of these components has this name.
-fn is_own(own: &[Component], name: &str) -> bool
-    ensures { result ≡ list_any (λ c. bytes_eq name.now c.definition.name) own.now }
+/// Whether one of the components of a text has this name, where there is a text.
+fn is_own(own: Option<Own<'_>>, name: &str) -> bool
+    ensures { result ≡ list_any (λ c. bytes_eq name.now c.definition.name) (beside own.entry) }
 {
-    own.iter()
-        .any(|component| name == component.definition.name())
+    match own {
+        Some(own) => own.has(name),
+        None => false,
+    }
 }
 
 /// Whether a template defines a component of this name, or it is one of these.
-fn is_there(choices: &BTreeMap<String, Choice>, own: &[Component], name: &str) -> bool
-    ensures { result ≡ is_there choices.now own.now name.now }
+fn is_there(choices: &BTreeMap<String, Choice>, own: Option<Own<'_>>, name: &str) -> bool
+    ensures { result ≡ is_there choices.now (beside own.entry) name.now }
 {
     choices.contains_key(name) || is_own(own, name)
 }
@@ -30,11 +33,12 @@ fn is_there(choices: &BTreeMap<String, Choice>, own: &[Component], name: &str) -
 pub fn is_known<O: Objects>(
     objects: &O,
     choices: &BTreeMap<String, Choice>,
-    own: &[Component],
+    own: Option<Own<'_>>,
     callee: Callee<'_>,
 ) -> bool
     ensures { result
-        ≡ is_known (O.engine objects.now) (is_there choices.now own.now) (callee_of callee.entry) }
+        ≡ is_known (O.engine objects.now) (is_there choices.now (beside own.entry))
+        (callee_of callee.entry) }
 {
     match callee {
         Callee::Filter(name) => objects.has_filter(name),
@@ -48,12 +52,13 @@ pub fn is_known<O: Objects>(
 fn is_missing_at<O: Objects>(
     objects: &O,
     choices: &BTreeMap<String, Choice>,
-    own: &[Component],
+    own: Option<Own<'_>>,
     chunk: &Chunk,
     position: usize,
 ) -> bool
     ensures { let called = option_and_then called_by (slice_get chunk.now.code position) in
-        result ≡ is_missing (O.engine objects.now) (is_there choices.now own.now) called }
+        result
+        ≡ is_missing (O.engine objects.now) (is_there choices.now (beside own.entry)) called }
 {
     match chunk.callee_at(position) {
         Some(callee) => !is_known(objects, choices, own, callee),
@@ -65,11 +70,12 @@ fn is_missing_at<O: Objects>(
 pub fn code_lacks<O: Objects>(
     objects: &O,
     choices: &BTreeMap<String, Choice>,
-    own: &[Component],
+    own: Option<Own<'_>>,
     chunk: &Chunk,
 ) -> bool
     ensures { result
-        ≡ code_lacks (O.engine objects.now) (is_there choices.now own.now) chunk.now.code }
+        ≡ code_lacks (O.engine objects.now) (is_there choices.now (beside own.entry))
+        chunk.now.code }
 {
     for position in 0..chunk.len() {
         if is_missing_at(objects, choices, own, chunk, position) {
@@ -80,13 +86,14 @@ pub fn code_lacks<O: Objects>(
 }
 
 /// Whether the code of one of a text's components calls what is not there. Takes no memory.
-pub fn any_lacks<O: Objects>(
-    objects: &O,
-    choices: &BTreeMap<String, Choice>,
-    own: &[Component],
-) -> bool
-    ensures { let there = is_there choices.now own.now in
-        result ≡ list_any (λ c. code_lacks (O.engine objects.now) there c.code.code) own.now }
+pub fn any_lacks<O: Objects>(objects: &O, choices: &BTreeMap<String, Choice>, own: Own<'_>) -> bool
+    ensures { let there = is_there choices.now (beside (Option.Some own.entry)) in
+        result ≡ list_any
+        (λ c. code_lacks (O.engine objects.now) there c.code.value.chunk.code)
+        own.entry.components.now }
 {
-    own.iter().any(|component| code_lacks(objects, choices, own, &component.code))
+    own.components.iter().any(|component| {
+        let code: &Code = &component.code;
+        code_lacks(objects, choices, Some(own), &code.chunk)
+    })
 }

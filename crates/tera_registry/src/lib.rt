@@ -3,7 +3,9 @@
 #![tactic(auto)]
 
 mod batch;
+pub mod body;
 mod choices;
+pub mod code;
 pub mod components;
 mod definers;
 mod edges;
@@ -12,19 +14,26 @@ mod includes;
 mod known;
 mod lineage;
 mod link;
-pub mod links;
 mod meant;
 mod merge;
 mod names;
 mod naming;
 mod needs;
+mod numbers;
+mod own;
+mod places;
 mod priority;
+pub mod table;
 mod template;
 pub mod templates;
+pub mod text;
 pub mod tops;
 mod variables;
 mod walks;
 
+pub use body::Body;
+pub use code::Code;
 pub use components::Component;
-pub use links::Home;
+pub use table::{Entry, Table};
 pub use templates::{Defined, Definer, Definers, FoundTemplate, Templates};
+pub use text::TextTable;

@@ -1,17 +1,20 @@
 // Links templates, and refuses those that do not go together.
-ghost use Rattle.std.specs.Prelude.{◌≡◌, length, IfOk};
+ghost use Rattle.std.specs.Prelude.{◌≡◌, length, map, IfOk};
+ghost use Rattle.std.specs.List.{All};
 ghost use Rattle.tera_errors.specs.Prelude.{Gives};
 ghost use Rattle.tera_meaning.specs.Prelude.{accepted, Registry};
 ghost use Rattle.tera_registry.specs.Choices.{AreChosen};
 ghost use Rattle.tera_registry.specs.Links.{AreUps, AreRoots};
 ghost use Rattle.tera_registry.specs.Kept.{Rises, entries_of, seen, seen_by};
-ghost use Rattle.tera_registry.specs.References.{AreAllRight};
+ghost use Rattle.tera_registry.specs.Bodies.{listings, AreStarts};
+ghost use Rattle.tera_registry.specs.Numbers.{above_of, aboves};
+ghost use Rattle.tera_registry.specs.References.{chunk_of, IsLinked};
 
 use crate::choices::{Choice, Taken, choices};
 use crate::definers::any_lacks;
 use crate::edges::edges;
 use crate::lineage::{Up, all_above, roots};
-use crate::links::{LinkTable, link_table};
+use crate::table::{Table, table_of};
 use crate::template::Template;
 use crate::walks::least_circle;
 use std::alloc::Global;
@@ -27,7 +30,7 @@ pub struct Links {
     pub ups: Vec<Up>,
     pub roots: Vec<usize>,
     pub choices: BTreeMap<String, Choice>,
-    pub table: LinkTable,
+    pub table: Table,
 }
 
 /// Links templates. Refuses those that do not go together, with the first fault by name.
@@ -45,8 +48,14 @@ pub fn link<O: Objects>(
     ensures ups { IfOk result (λ l. AreUps registry l.ups.items (length registry.templates)) }
     ensures roots { IfOk result (λ l. AreRoots registry l.roots.items (length registry.templates)) }
     ensures choices { IfOk result (λ l. AreChosen registry l.choices) }
-    ensures table { IfOk result (λ l. AreAllRight (seen templates.now prefixes.now) l.choices
-        l.table.bodies.items) }
+    ensures whole { IfOk result
+        (λ l. map chunk_of l.table.entries.items ≡ listings (entries_of templates.now)) }
+    ensures starts { IfOk result (λ l. AreStarts (entries_of templates.now) l.table.starts.items
+        (length templates.now)) }
+    ensures aboves { IfOk result
+        (λ l. map above_of l.table.entries.items ≡ aboves registry) }
+    ensures right { IfOk result (λ l. All
+        (IsLinked (seen templates.now prefixes.now) l.choices) l.table.entries.items) }
 {
     let ups = all_above(alloc, templates, prefixes)?;
     let edges = edges(alloc, templates, prefixes)?;
@@ -68,7 +77,7 @@ pub fn link<O: Objects>(
             "a template has a block that none of its parents has, or names what is not there",
         ));
     }
-    let table = link_table(alloc, templates, prefixes, &choices)?;
+    let table = table_of(alloc, templates, prefixes, ups.as_slice(), &choices)?;
     Ok(Links {
         ups,
         roots,

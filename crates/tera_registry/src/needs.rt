@@ -4,15 +4,16 @@ ghost use Rattle.std.specs.List.{flat_map, cons_option};
 ghost use Rattle.tera_errors.specs.Prelude.{Lacks};
 ghost use Rattle.tera_syntax_tree.specs.Blocks as in_tree;
 ghost use Rattle.tera_syntax_tree.specs.Prelude.{nodes_of};
-ghost use Rattle.tera_code.specs.Prelude.{block_of, block_listings, callee_of, listing_of};
-ghost use Rattle.tera_registry.specs.Components.{kept_of, kept_all};
+ghost use Rattle.tera_code.specs.Prelude.{block_listings, callee_of, listing_of};
+ghost use Rattle.tera_registry.specs.Components.{kept_block, kept_of, kept_all};
 ghost use Rattle.tera_registry.specs.Needs.{is_built_in, as_need, callee_needed, needed_by, needs_of, code_needs, bodies_need};
 
+use crate::code::{Code, TemplateBlock};
 use crate::components::Component;
 use crate::has_body::HasBody;
 use std::alloc::Global;
 use tera_built_ins::{BuiltInFilter, BuiltInFunction, BuiltInTest};
-use tera_code::{Block, Callee, Chunk};
+use tera_code::{Callee, Chunk};
 use tera_errors::TeraResult;
 use tera_syntax_tree::Node;
 use tera_values::Name;
@@ -94,11 +95,13 @@ fn add_needs(alloc: Global, chunk: &Chunk, needs: &mut Vec<Need>) -> TeraResult<
 
 /// Puts what the code of each needs behind what was found.
 fn add_all<B: HasBody>(alloc: Global, all: &[B], needs: &mut Vec<Need>) -> TeraResult<()>
-    ensures ok { OnOk result (needs.new.items ≡ needs.old.items ++ flat_map B.needs all.now) }
+    ensures ok { OnOk result (needs.new.items
+        ≡ needs.old.items ++ flat_map (λ b. code_needs (B.listing b).code) all.now) }
     ensures lacks { IfErr result Lacks }
 {
     for one in all {
-        add_needs(alloc, one.body(), needs)?;
+        let code: &Code = one.code();
+        add_needs(alloc, &code.chunk, needs)?;
     }
     Ok(())
 }
@@ -107,7 +110,7 @@ fn add_all<B: HasBody>(alloc: Global, all: &[B], needs: &mut Vec<Need>) -> TeraR
 fn code_needs(
     alloc: Global,
     body: &Chunk,
-    blocks: &[Block],
+    blocks: &[TemplateBlock],
     components: &[Component],
 ) -> TeraResult<Vec<Need>>
     ensures ok { IfOk result (λ v. v.items ≡ bodies_need body.now blocks.now components.now) }
@@ -128,11 +131,11 @@ pub fn needs(
     nodes: &[Node<'_>],
     name: &str,
     body: &Chunk,
-    blocks: &[Block],
+    blocks: &[TemplateBlock],
     components: &[Component],
 ) -> TeraResult<Vec<Need>>
     requires body { body.now ≡ listing_of name.now (nodes_of nodes.now) }
-    requires blocks { map block_of blocks.now
+    requires blocks { map kept_block blocks.now
         ≡ block_listings name.now (in_tree.blocks (nodes_of nodes.now)) }
     requires components { map kept_of components.now ≡ kept_all name.now (nodes_of nodes.now) }
     ensures ok { IfOk result (λ v. v.items ≡ needs_of (nodes_of nodes.now)) }

@@ -1,23 +1,25 @@
 // Templates as they are kept.
 ghost use Rattle.std.specs.Prelude.{◌≡◌, map, string_bytes};
-ghost use Rattle.std.specs.Coded.{Coded-set, codes};
+ghost use Rattle.std.specs.Coded.{codes};
 ghost use Rattle.tera_syntax_tree.specs.Blocks as in_tree;
 ghost use Rattle.tera_syntax_tree.specs.Includes as in_nodes;
 ghost use Rattle.tera_syntax_tree.specs.Prelude.{nodes_of};
 ghost use Rattle.tera_components.specs.Prelude.{definition_coding};
 ghost use Rattle.tera_registry.specs.Components as kept;
 ghost use Rattle.tera_registry.specs.Needs.{needs_of};
+ghost use Rattle.tera_registry.specs.Places.{ArePlaces};
 ghost use Rattle.tera_registry.specs.contracts.needs.Need as need;
-ghost use Rattle.tera_code.specs.Prelude.{block_of, block_listings, listing_of};
+ghost use Rattle.tera_code.specs.Prelude.{block_listings, listing_of};
 ghost use Rattle.tera_code.specs.contracts.chunk.Chunk as chunk;
 ghost use Rattle.tera_variables.specs.Free as in_text;
 ghost use Rattle.tera_variables.specs.Prelude.{names_in};
 
+use crate::code::{Code, TemplateBlock};
 use crate::components::Component;
 use crate::meant::Meant;
 use crate::needs::Need;
-use std::collections::BTreeSet;
-use tera_code::{Block, Chunk};
+use std::collections::{BTreeMap, BTreeSet};
+use std::rc::Rc;
 use tera_values::Name;
 
 /// A template that was read and compiled. It is shared, so that a set of templates is copied without their texts.
@@ -28,9 +30,11 @@ pub struct Template {
     /// The name of the template that it extends, if it does.
     pub parent: Option<String>,
     /// The code of its nodes.
-    pub body: Chunk,
+    pub body: Rc<Code>,
     /// Its blocks, each with code of its own.
-    pub blocks: Vec<Block>,
+    pub blocks: Vec<TemplateBlock>,
+    /// Where the first block of each name stands among them.
+    pub places: BTreeMap<String, usize>,
     /// The names of those that are inside no other block.
     pub tops: Vec<Name>,
     /// The names that it includes, in the order of its text.
@@ -42,11 +46,13 @@ pub struct Template {
     /// What it calls that is not built in. Whether that is there is looked up when templates are linked.
     pub needs: Vec<Need>,
     pub meant: Meant,
-    ghost compiled: { body
-        ≡ listing_of (string_bytes name) (nodes_of meant.nodes) } by { Coded-set body-code _ _ },
-    ghost divided: { map block_of blocks.items
+    ghost compiled: { body.value.chunk
+        ≡ listing_of (string_bytes name) (nodes_of meant.nodes) } by { Prim.hlevel
+            (codes, chunk.the_row.coded) },
+    ghost divided: { map kept.kept_block blocks.items
         ≡ block_listings (string_bytes name)
         (in_tree.blocks (nodes_of meant.nodes)) } by { Prim.hlevel (codes, chunk.the_row.coded) },
+    ghost placed: { ArePlaces (map (λ b. b.name) blocks.items) places } by { Prim.hlevel codes },
     ghost defined: { map kept.kept_of components.items
         ≡ kept.kept_all (string_bytes name) (nodes_of meant.nodes) } by { Prim.hlevel
             (codes, definition_coding, chunk.the_row.coded) },

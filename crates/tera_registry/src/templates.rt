@@ -1,36 +1,36 @@
 // All templates of an engine, linked.
-ghost use Rattle.std.specs.Prelude.{◌≡◌, ◌<◌, IfOk, IfErr, Some, None, Ok, map, length, slice_get, is_some, string_bytes, IsTrue, [], ◌∷◌};
+ghost use Rattle.std.specs.Prelude.{◌≡◌, ◌+◌, ◌<◌, IfOk, IfErr, IfSome, Some, None, Ok, map, length, slice_get, is_some, string_bytes, IsTrue, [], ◌∷◌, option_map};
 ghost use Rattle.tera_errors.specs.Prelude.{Gives, GivesOneOf, Lacks};
 ghost use Rattle.tera_syntax_tree.specs.Prelude.{delimiters_of, accepted, nodes_of};
-ghost use Rattle.tera_meaning.specs.Prelude.{component, first_fault, is_component, lacks_a_callee, misses_an_include, ancestors, definers_in, AreComponentNames, AnswersVariables, resolve, Entry, Registry};
+ghost use Rattle.tera_meaning.specs.Prelude.{component, first_fault, is_component, misses_an_include, ancestors, AreComponentNames, AnswersVariables, resolve, Entry, Registry};
 ghost use Rattle.std.specs.Coded.{codes};
-ghost use Rattle.tera_code.specs.Prelude.{nodes_code};
 ghost use Rattle.tera_code.specs.contracts.chunk.Chunk as chunk;
 ghost use Rattle.tera_registry.specs.contracts.choices.Choice as choice;
 ghost use Rattle.tera_registry.specs.Choices.{AreChosen, IsTaken, chosen};
-ghost use Rattle.tera_registry.specs.References.{AreAllRight, LeadsTo-prop};
+ghost use Rattle.std.specs.List.{All};
+ghost use Rattle.tera_registry.specs.Bodies.{listings, start, AreStarts, AreRooted};
+ghost use Rattle.tera_registry.specs.Numbers.{above_of, aboves, IsBlock, from_number, from_first, first_of, lineage};
+ghost use Rattle.tera_registry.specs.References.{chunk_of, IsLinked, IsLinked-prop};
 ghost use Rattle.tera_registry.specs.Order.{Rises, Rises-prop};
-ghost use Rattle.tera_registry.specs.Links.{ArePlaced, IsLinked};
+ghost use Rattle.tera_registry.specs.Links.{ArePlaced};
 ghost use Rattle.tera_registry.specs.Positions.{IsPosition};
 ghost use Rattle.tera_registry.specs.Kept.{entries_of, seen};
 ghost use Rattle.tera_registry.specs.Batch.{ConfiguresOneOf, Adds, pairs_of};
 
 use crate::batch::put_all;
+use crate::body::Body;
 use crate::choices::Choice;
-use crate::components::Component;
-use crate::definers::{At, first, first_above};
+use crate::definers::first;
 use crate::includes::misses;
-use crate::known::{any_lacks, code_lacks};
 use crate::lineage::Up;
 use crate::link::link;
-use crate::links::{Home, LinkTable};
 use crate::names::resolve;
+use crate::table::{Table, Targets};
 use crate::template::Template;
 use crate::variables::variables;
 use std::alloc::Global;
 use std::collections::{BTreeMap, BTreeSet};
 use std::rc::Rc;
-use tera_code::{Block, Chunk};
 use tera_components::ComponentDefinition;
 use tera_errors::{Error, TeraResult};
 use tera_objects::Objects;
@@ -40,24 +40,30 @@ use tera_values::{Name, Sought};
 /// Templates by name, and the prefixes by which a name is looked up that none of them has.
 pub struct Templates {
     alloc: Global,
-    all: Vec<Rc<Template>>,
-    prefixes: Vec<String>,
+    pub(crate) all: Vec<Rc<Template>>,
+    pub(crate) prefixes: Vec<String>,
     /// What each extends, which is looked up when they are linked and never again.
     ups: Vec<Up>,
     roots: Vec<usize>,
-    choices: BTreeMap<String, Choice>,
-    /// What each include and each call of a component leads to, found once as well.
-    links: LinkTable,
+    pub(crate) choices: BTreeMap<String, Choice>,
+    /// All bodies, with what each include and each call of a component leads to, found once as well.
+    table: Table,
     ghost rises: { Rises (entries_of all.items) } by { Rises-prop _ },
     ghost faultless: { first_fault (seen all.items prefixes.items) [] (entries_of all.items)
         ≡ None },
     ghost placed: { ArePlaced (seen all.items prefixes.items) ups.items } by { Prim.hlevel codes },
-    ghost linked: { IsLinked all.items prefixes.items roots.items } by { Prim.hlevel
+    ghost rooted: { AreRooted (seen all.items prefixes.items) roots.items } by { Prim.hlevel
         (codes, chunk.the_row.coded) },
     ghost chosen: { AreChosen (seen all.items prefixes.items) choices } by { Prim.hlevel
         (codes, choice.the_row.coded) },
-    ghost right: { AreAllRight (seen all.items prefixes.items) choices
-        links.bodies.items } by { Prim.hlevel LeadsTo-prop },
+    ghost whole: { map chunk_of table.entries.items
+        ≡ listings (entries_of all.items) } by { Prim.hlevel (codes, chunk.the_row.coded) },
+    ghost starting: { AreStarts (entries_of all.items) table.starts.items
+        (length all.items) } by { Prim.hlevel codes },
+    ghost right: { All (IsLinked (seen all.items prefixes.items) choices)
+        table.entries.items } by { Prim.hlevel IsLinked-prop },
+    ghost climbed: { map above_of table.entries.items
+        ≡ aboves (seen all.items prefixes.items) } by { Prim.hlevel codes },
 }
 
 // By hand, so that templates that go out of scope are one call.
@@ -70,14 +76,14 @@ impl Drop for Templates {
             ups,
             roots,
             choices,
-            links,
+            table,
         } = self;
         drop(all);
         drop(prefixes);
         drop(ups);
         drop(roots);
         drop(choices);
-        drop(links);
+        drop(table);
     }
 }
 
@@ -85,13 +91,10 @@ impl Drop for Templates {
 #[derive(Clone, Copy)]
 pub struct FoundTemplate<'t> {
     pub name: &'t str,
-    /// The code that a rendering of it begins with: that of the last of its parents, or its own.
-    pub chunk: &'t Chunk,
-    /// Its own code, which is what an include of it runs.
-    pub body: &'t Chunk,
     /// Those among which it was found.
     pub templates: &'t Templates,
-    position: usize,
+    /// Where it stands among them: it alone does.
+    pub position: usize,
     ghost stands: { slice_get (map (λ t. t.0) (entries_of templates.now.all.items)) position
         ≡ Some name.now } by { Prim.hlevel codes },
 }
@@ -100,38 +103,49 @@ pub struct FoundTemplate<'t> {
 #[derive(Clone, Copy)]
 pub struct Defined<'t> {
     pub definition: &'t ComponentDefinition,
-    pub chunk: &'t Chunk,
-    /// Where the links of its code are.
-    pub home: Home,
+    pub body: Body<'t>,
 }
 
 impl<'t> FoundTemplate<'t> {
     ghost use Rattle.tera_meaning.specs.Lineage.{definers};
-    ghost use Rattle.tera_registry.specs.Templates.{with_templates, definers_of};
+    ghost use Rattle.tera_registry.specs.HandedOut.{code_of, IsRootOf, IsOwnOf};
+    ghost use Rattle.tera_registry.specs.Numbers.{first_number};
+    ghost use Rattle.tera_registry.specs.Templates.{with_templates, definers_of, first_number_of, AreAmong};
 
-    /// Where the links of the code are that a rendering of it begins with.
-    pub fn home(&self) -> Home {
-        match self.templates.roots.get(self.position) {
-            Some(root) => self.templates.links.home_of_body(*root),
-            None => Home::nowhere(),
-        }
+    /// The body that a rendering of it begins with: that of the last of its parents, or its own.
+    pub fn root(&self) -> Body<'t>
+        ensures templates { result.templates.now ≡ self.now.templates.now }
+        ensures code { (r : Registry) → IsRootOf (with_templates r self.now.templates.now)
+            self.now.name.now (code_of result) }
+    {
+        let templates: &'t Templates = self.templates;
+        templates.own_body(templates.roots[self.position])
     }
 
-    /// Where the links of its own code are.
-    pub fn body_home(&self) -> Home {
-        self.templates.links.home_of_body(self.position)
+    /// Its own body, which is what an include of it runs.
+    pub fn body(&self) -> Body<'t>
+        ensures templates { result.templates.now ≡ self.now.templates.now }
+        ensures code { (r : Registry) → IsOwnOf (with_templates r self.now.templates.now)
+            self.now.name.now (code_of result) }
+    {
+        let templates: &'t Templates = self.templates;
+        templates.own_body(self.position)
     }
 
     /// Those who define a block for the template, nearest first. Takes no memory.
     pub fn definers(&self, block: &str) -> Definers<'t>
-        ensures { (r : Registry) → definers_of result
+        ensures among { (r : Registry) → with_templates r self.now.templates.now ≡ r
+            → AreAmong r result }
+        ensures those { (r : Registry) → definers_of result
             ≡ definers (with_templates r self.now.templates.now)
             (Some self.now.name.now) block.now }
+        ensures number { (r : Registry) → first_number_of result
+            ≡ first_number (with_templates r self.now.templates.now)
+            self.now.name.now block.now }
     {
+        let templates: &'t Templates = self.templates;
         let sought = Sought::new(block);
-        Definers {
-            start: self.templates.first(self.position, &sought),
-        }
+        templates.definers_from(templates.first_number(self.position, &sought))
     }
 }
 
@@ -141,61 +155,55 @@ pub struct Definers<'t> {
     start: Option<Start<'t>>,
 }
 
-/// The block that the first of them defines, or the one above which they all stand.
+/// The number of the body of the first of them.
 #[derive(Clone, Copy)]
 struct Start<'t> {
     templates: &'t Templates,
-    at: At,
-    is_above: bool,
+    number: usize,
+    ghost stands: { IsBlock (entries_of templates.now.all.items) number } by { Prim.hlevel codes },
 }
 
-/// A block as one template defines it, and those who define it above.
+/// A block as one template defines it, the number of its body, and those who define it above.
 #[derive(Clone, Copy)]
 pub struct Definer<'t> {
-    pub chunk: &'t Chunk,
-    /// Where the links of its code are.
-    pub home: Home,
+    pub number: usize,
+    pub body: Body<'t>,
     pub above: Definers<'t>,
 }
 
 impl<'t> Definers<'t> {
-    ghost use Rattle.tera_registry.specs.Templates.{definers_of, AreNext};
+    ghost use Rattle.tera_registry.specs.Templates.{definers_of, first_number_of, with_templates, AreNext, AreAmong};
 
     /// Nobody.
     pub fn none() -> Definers<'t>
-        ensures { definers_of result ≡ [] }
+        ensures nobody { definers_of result ≡ [] }
+        ensures number { first_number_of result ≡ None }
+        ensures among { (r : Registry) → AreAmong r result }
     {
         Definers { start: None }
     }
 
-    /// The first of them, with those above, which are looked for when they are asked for. Takes no memory.
+    /// The first of them, with those above. Takes no memory, and looks for nothing.
     pub fn next(&self) -> Option<Definer<'t>>
-        ensures { AreNext (definers_of self.now) result }
+        ensures next { AreNext (definers_of self.now) result }
+        ensures number { option_map (λ d. d.number) result ≡ first_number_of self.now }
+        ensures among { (r : Registry) → AreAmong r self.now → IfSome result (λ n.
+            (with_templates r n.body.templates.now ≡ r) × AreAmong r n.above) }
     {
         match self.start {
             None => None,
             Some(start) => {
                 let templates: &'t Templates = start.templates;
-                if !start.is_above {
-                    return templates.definer(start.at);
-                }
-                match templates.above(start.at) {
-                    None => None,
-                    Some(at) => templates.definer(at),
-                }
+                Some(templates.definer(start.number))
             }
         }
     }
 }
 
 impl Templates {
-    ghost use Rattle.tera_registry.specs.Templates.{templates_of, prefixes_of, with_templates, is_empty, Finds, IsDefined, registry_in, started, AreNext};
+    ghost use Rattle.tera_registry.specs.Templates.{templates_of, prefixes_of, with_templates, is_empty, Finds, IsDefined, registry_in, definers_of, first_number_of, AreNext, AreAmong};
+    ghost use Rattle.tera_registry.specs.HandedOut.{code_of};
     ghost use Rattle.tera_errors.specs.Prelude.{Name};
-    ghost use Rattle.tera_syntax_tree.specs.Tree.{Tree};
-    ghost use Rattle.tera_syntax_tree.specs.Prelude.{blocks};
-    ghost use Rattle.tera_meaning.specs.Rendering.{is_component_beside};
-    ghost use Rattle.tera_registry.specs.Components.{kept_of, kept_all};
-    ghost use Rattle.tera_registry.specs.Definers.{from_position, above_position, from_found, StandsAt};
 
     /// None yet. Takes no memory.
     pub fn new(alloc: Global, prefixes: Vec<String>) -> Templates
@@ -209,7 +217,7 @@ impl Templates {
             ups: Vec::new(alloc),
             roots: Vec::new(alloc),
             choices: BTreeMap::new(alloc),
-            links: LinkTable::new(alloc),
+            table: Table::new(alloc),
         }
     }
 
@@ -248,7 +256,7 @@ impl Templates {
         self.ups = links.ups;
         self.roots = links.roots;
         self.choices = links.choices;
-        self.links = links.table;
+        self.table = links.table;
         Ok(())
     }
 
@@ -260,18 +268,40 @@ impl Templates {
         Some(self.found_at(position))
     }
 
-    /// The same for the name of a reference that has this number in code which is at home there: what is linked is not looked up.
-    pub fn find_linked(&self, name: &Name, home: Home, number: usize) -> Option<FoundTemplate<'_>>
-        ensures { (r : Registry) → Finds (with_templates r self.now) name.now result }
+    // The body of this number.
+    fn body(&self, number: usize) -> Body<'_>
+        requires { number < length (listings (templates_of self.now)) }
+        ensures templates { result.templates.now ≡ self.now }
+        ensures code { slice_get (listings (templates_of self.now)) number
+            ≡ Some (code_of result) }
     {
-        match self.links.position(name, home, number) {
-            Some(position) => Some(self.found_at(position)),
-            None => self.find(name.as_str()),
-        }
+        Body::new(self, &self.table.entries[number])
+    }
+
+    // The number of the body that stands so far behind the own body of a template.
+    #[inline(always)]
+    fn number(&self, template: usize, offset: usize) -> usize
+        requires template { template < length self.now.all.items }
+        requires there { start (templates_of self.now) template + offset
+            < length (listings (templates_of self.now)) }
+        ensures { result ≡ start (templates_of self.now) template + offset }
+    {
+        self.table.starts[template] + offset
+    }
+
+    // The own body of the template at a position.
+    #[inline(always)]
+    fn own_body(&self, position: usize) -> Body<'_>
+        requires { position < length self.now.all.items }
+        ensures templates { result.templates.now ≡ self.now }
+        ensures code { slice_get (listings (templates_of self.now))
+            (start (templates_of self.now) position) ≡ Some (code_of result) }
+    {
+        self.body(self.number(position, 0))
     }
 
     // The template at a position, to which some names resolve.
-    fn found_at(&self, position: usize) -> FoundTemplate<'_>
+    pub(crate) fn found_at(&self, position: usize) -> FoundTemplate<'_>
         requires { position < length self.now.all.items }
         ensures { (r : Registry) (name : Name)
             → IsPosition (templates_of self.now) (Some position)
@@ -279,77 +309,58 @@ impl Templates {
             → Finds (with_templates r self.now) name (Some result) }
     {
         let template: &Template = &self.all[position];
-        let root: &Template = &self.all[self.roots[position]];
         FoundTemplate {
             name: template.name.as_str(),
-            chunk: &root.body,
-            body: &template.body,
             templates: self,
             position,
         }
     }
 
-    /// Where the first of those stands who define a block, from a template on.
-    fn first(&self, from: usize, block: &Sought<'_>) -> Option<Start<'_>>
+    // The number of the body of the first of those who define a block, from a template on.
+    fn first_number(&self, from: usize, block: &Sought<'_>) -> Option<usize>
         ghost registry: { Registry }
         requires registry { registry ≡ registry_in self.now }
         requires there { from < length self.now.all.items }
         ensures { (t : Entry) → slice_get registry.templates from ≡ Some t
-            → started result ≡ definers_in block.now (t ∷ ancestors registry t) }
+            → result ≡ first_of (lineage registry block.now (t ∷ ancestors registry t)) }
     {
         match first(self.all.as_slice(), self.ups.as_slice(), from, block) {
             None => None,
-            Some(at) => Some(Start {
-                templates: self,
-                at,
-                is_above: false,
-            }),
+            Some(at) => Some(self.number(at.template, 1 + at.block)),
         }
     }
 
-    // The block that stands there, if one does.
-    fn block_at(&self, at: At) -> Option<&Block>
-        ensures { StandsAt (registry_in self.now) at result }
+    // Those who define a block, from the one on whose body has this number.
+    fn definers_from(&self, number: Option<usize>) -> Definers<'_>
+        requires { IfSome number (IsBlock (templates_of self.now)) }
+        ensures those { definers_of result ≡ from_first (registry_in self.now) number }
+        ensures number { first_number_of result ≡ number }
+        ensures among { (r : Registry) → with_templates r self.now ≡ r → AreAmong r result }
     {
-        let all = self.all.as_slice();
-        if at.template >= all.len() {
-            return None;
-        }
-        let template: &Template = &all[at.template];
-        let blocks = template.blocks.as_slice();
-        if at.block >= blocks.len() {
-            return None;
-        }
-        Some(&blocks[at.block])
-    }
-
-    /// The block that stands there, with those who define it above.
-    fn definer(&self, at: At) -> Option<Definer<'_>>
-        ensures { AreNext (from_position (registry_in self.now) at) result }
-    {
-        let block = self.block_at(at)?;
-        Some(Definer {
-            chunk: &block.code,
-            home: self.links.home_of_block(at.template, at.block),
-            above: Definers {
+        match number {
+            None => Definers::none(),
+            Some(number) => Definers {
                 start: Some(Start {
                     templates: self,
-                    at,
-                    is_above: true,
+                    number,
                 }),
             },
-        })
+        }
     }
 
-    /// Where the first of those stands who define a block above the template in which it stands.
-    fn above(&self, at: At) -> Option<At>
-        ghost registry: { Registry }
-        requires registry { registry ≡ registry_in self.now }
-        ensures { from_found registry result ≡ above_position registry at }
+    // The block whose body has this number, with those who define it above.
+    fn definer(&self, number: usize) -> Definer<'_>
+        requires { IsBlock (templates_of self.now) number }
+        ensures next { AreNext (from_number (registry_in self.now) number) (Some result) }
+        ensures number { result.number ≡ number }
+        ensures templates { result.body.templates.now ≡ self.now }
+        ensures among { (r : Registry) → with_templates r self.now ≡ r → AreAmong r result.above }
     {
-        let block = self.block_at(at)?;
-        let name = block.name.sought();
-        first_above(self.all.as_slice(), self.ups.as_slice(), at.template, &name)
+        Definer {
+            number,
+            body: self.body(number),
+            above: self.definers_from(self.table.entries[number].above),
+        }
     }
 
     /// Whether a name resolves to a template. Takes no memory.
@@ -361,39 +372,27 @@ impl Templates {
 
     /// The component of a name: the definition that is taken of it. Takes no memory.
     pub fn component(&self, name: &str) -> Option<Defined<'_>>
-        ensures { (r : Registry) → IsDefined (component (with_templates r self.now) name.now)
-            result }
+        ensures templates { IfSome result (λ d. d.body.templates.now ≡ self.now) }
+        ensures defined { (r : Registry) → IsDefined
+            (component (with_templates r self.now) name.now) result }
     {
         let choice = self.choices.get(name)?;
         Some(self.defined_at(*choice))
     }
 
-    /// The same for the name of a reference that has this number in code which is at home there: what is linked is not looked up.
-    pub fn component_linked(&self, name: &Name, home: Home, number: usize) -> Option<Defined<'_>>
-        ensures { (r : Registry) → IsDefined (component (with_templates r self.now) name.now)
-            result }
-    {
-        match self.links.choice(name, home, number) {
-            Some(choice) => Some(self.defined_at(choice)),
-            None => self.component(name.as_str()),
-        }
-    }
-
     // The component of which this is taken.
-    fn defined_at(&self, choice: Choice) -> Defined<'_>
+    pub(crate) fn defined_at(&self, choice: Choice) -> Defined<'_>
         requires { IsTaken self.now.choices choice }
-        ensures { (r : Registry) (name : Name) → chosen self.now.choices name ≡ Some choice
+        ensures templates { result.body.templates.now ≡ self.now }
+        ensures defined { (r : Registry) (name : Name) → chosen self.now.choices name ≡ Some choice
             → IsDefined (component (with_templates r self.now) name) (Some result) }
     {
         let template: &Template = &self.all[choice.template];
         let component = &template.components[choice.component];
-        let home = self
-            .links
-            .home_of_component(choice.template, template.blocks.len(), choice.component);
+        let offset = 1 + template.blocks.len() + choice.component;
         Defined {
             definition: &component.definition,
-            chunk: &component.code,
-            home,
+            body: self.body(self.number(choice.template, offset)),
         }
     }
 
@@ -404,16 +403,17 @@ impl Templates {
         self.choices.contains_key(name)
     }
 
-    /// Whether a text beside the templates calls what is not there: this is the code of its own body, these are its
-    /// components, and it has no block. Takes no memory.
-    pub fn lacks_a_callee<O: Objects>(&self, objects: &O, body: &Chunk, own: &[Component]) -> bool
-        ensures { (r : Registry) (tree : Tree) (file : Name) → r.engine ≡ O.engine objects.now
-            → body.now.code ≡ nodes_code tree.nodes 0
-            → map kept_of own.now ≡ kept_all file tree.nodes → blocks tree.nodes ≡ []
-            → result ≡ lacks_a_callee r.engine
-            (is_component_beside (with_templates r self.now) tree) tree.nodes }
+    // What code beside the templates is linked to.
+    pub(crate) fn targets(&self) -> Targets<'_>
+        ensures templates { result.templates.now ≡ self.now.all.items }
+        ensures prefixes { result.prefixes.now ≡ self.now.prefixes.items }
+        ensures choices { result.choices.now ≡ self.now.choices }
     {
-        code_lacks(objects, &self.choices, own, body) || any_lacks(objects, &self.choices, own)
+        Targets {
+            templates: self.all.as_slice(),
+            prefixes: self.prefixes.as_slice(),
+            choices: &self.choices,
+        }
     }
 
     /// Whether nodes include what is not there. Takes no memory.

@@ -1,9 +1,11 @@
 use Rattle.std.proofs.Common.{◌≡◌, ◌∷◌, Some, sym, ap, ◌∙◌}
 use Rattle.tera_registry.specs.declared.lineage.Up.TheVariants as up
-use Rattle.tera_meaning.specs.Lineage.{ancestors, definers_in}
+use Rattle.tera_meaning.specs.Lineage.{ancestors}
 use Rattle.tera_registry.specs.Kept.{entry_of}
+use Rattle.tera_registry.specs.Numbers.{first_of, lineage}
 use Rattle.tera_registry.proofs.Kept.{entry-among}
-use Rattle.tera_registry.proofs.Ancestors.{first-own, first-moved, pass-own, nobody, next-ancestors, fewer, not-missing, listed, among, up-at}
+use Rattle.tera_registry.proofs.Ancestors.{none-above, next-ancestors, fewer, not-missing, listed, among, up-at}
+use Rattle.tera_registry.proofs.Numbered.{own-number, pass-number}
 use Rattle.tera_registry.proofs.definers.first.Goals as goal
 
 pub up-init : goal.up-init
@@ -12,15 +14,15 @@ up-init g c = record {
   listed = listed g.registry _ _ _ c.requires.0 c.requires.1;
   same = λ t u t_at u_at.
       (let e : t ≡ u = (let q : Some t ≡ Some u = sym t_at ∙ u_at in cc) in
-      ap (λ v. definers_in c.args.block.now (v ∷ ancestors g.registry v)) e);
+      ap (λ v. lineage g.registry c.args.block.now (v ∷ ancestors g.registry v)) e);
 }
 
-pub returns-in-Some : goal.returns-in-Some
-returns-in-Some g c =
+pub returns-in-Some-clause-number : goal.returns-in-Some-clause-number
+returns-in-Some-clause-number g c = λ t at.
     let r = g.registry in
     let u = entry_of c.deref-template.result.now in
     let here = entry-among r c.args.templates.now c.up.last _ _ c.requires.0.same c.up.invariant.there c.index-templates-last.is c.deref-template.ensures in
-    λ t at. first-moved r (Some (record { template = c.up.last; block = c.in-Some.position })) _ _ (c.up.invariant.same t u at here) (first-own r c.args.block.now u (record { template = c.up.last; block = c.in-Some.position }) here c.in-Some.ensures)
+    own-number r c.args.block.now c.up.last c.in-Some.position u (ancestors r u) c.requires.0.rises here c.in-Some.ensures ∙ ap first_of (sym (c.up.invariant.same t u at here))
 
 pub up-smaller : goal.up-smaller
 up-smaller g c =
@@ -31,6 +33,7 @@ up-smaller g c =
 pub up-preserved : goal.up-preserved
 up-preserved g c =
     let r = g.registry in
+    let block = c.args.block.now in
     let u = entry_of c.deref-template.result.now in
     let here = entry-among r c.args.templates.now c.up.last _ _ c.requires.0.same c.up.invariant.there c.index-templates-last.is c.deref-template.ensures in
     let above = up-at r _ c.args.ups.now c.up.last (up.At c.in-At.next) u c.requires.0 c.up.invariant.there c.in-At.is here in
@@ -40,18 +43,20 @@ up-preserved g c =
       there = there;
       listed = listed r _ _ _ c.requires.0 there;
       same = λ t v t_at v_at.
-          c.up.invariant.same t u t_at here ∙ pass-own r c.args.block.now u v c.in_default.ensures (next-ancestors r u v c.in-At.next ok above v_at);
+          c.up.invariant.same t u t_at here ∙ pass-number r block c.up.last u (ancestors r u) c.requires.0.rises here c.in_default.ensures ∙ ap (lineage r block) (next-ancestors r u v c.in-At.next ok above v_at);
     }
 
-pub returns-in-Nothing : goal.returns-in-Nothing
-returns-in-Nothing g c =
+pub returns-in-Nothing-clause-number : goal.returns-in-Nothing-clause-number
+returns-in-Nothing-clause-number g c = λ t at.
     let r = g.registry in
+    let block = c.args.block.now in
     let u = entry_of c.deref-template.result.now in
     let here = entry-among r c.args.templates.now c.up.last _ _ c.requires.0.same c.up.invariant.there c.index-templates-last.is c.deref-template.ensures in
-    λ t at. c.up.invariant.same t u at here ∙ nobody r c.args.block.now u c.in_default.ensures (up-at r _ c.args.ups.now c.up.last up.Nothing u c.requires.0 c.up.invariant.there c.in-Nothing.is here)
+    let alone = none-above r u (up-at r _ c.args.ups.now c.up.last up.Nothing u c.requires.0 c.up.invariant.there c.in-Nothing.is here) in
+    sym (ap first_of (c.up.invariant.same t u at here ∙ pass-number r block c.up.last u (ancestors r u) c.requires.0.rises here c.in_default.ensures ∙ ap (lineage r block) alone))
 
-pub returns-in-Missing : goal.returns-in-Missing
-returns-in-Missing g c =
+pub returns-in-Missing-clause-number : goal.returns-in-Missing-clause-number
+returns-in-Missing-clause-number g c =
     let r = g.registry in
     let u = entry_of c.deref-template.result.now in
     let here = entry-among r c.args.templates.now c.up.last _ _ c.requires.0.same c.up.invariant.there c.index-templates-last.is c.deref-template.ensures in

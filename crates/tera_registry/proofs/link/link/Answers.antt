@@ -9,7 +9,7 @@ use Rattle.tera_registry.specs.Kept.{seen, seen_by}
 use Rattle.tera_registry.proofs.Ancestors.{grounded}
 use Rattle.tera_registry.proofs.Walking.{length-rows}
 use Rattle.tera_registry.proofs.Linked.{all-ups}
-use Rattle.tera_registry.proofs.Served.{ups-served, edges-served, circle-served, tie-served, chosen-served}
+use Rattle.tera_registry.proofs.Served.{climbable-served, ups-served, edges-served, circle-served, tie-served, chosen-served}
 use Rattle.tera_registry.proofs.Circles.{all-edges, closed, first_circle}
 use Rattle.tera_registry.proofs.Checked.{climbed-says, climbed-faultless, lacks-says, keeps-all, told}
 use Rattle.tera_registry.proofs.link.link.Goals as goal
@@ -48,11 +48,7 @@ any_lacks-requires g c = λ κs within.
     let edges : AreEdges (seen ts ps) (rows c.as_slice-4.result.now) (length ts) = rw c.as_slice-4.ensures.value c.in_ok-edges.ensures in (
       within,
       (
-        record {
-          same = ap (λ (r : Registry). r.templates) here;
-          above = subst (λ (r : Registry). AreUps r c.as_slice-3.result.now (length r.templates)) here (ups-served engine ts ps _ _ ups);
-          grounded = grounded g.registry (climbed-faultless g.registry c.in-Ok.ensures.answer);
-        },
+        climbable-served engine ts ps g.registry _ here c.requires.1.0 ups (grounded g.registry (climbed-faultless g.registry c.in-Ok.ensures.answer)),
         (
           subst (λ (r : Registry). AreEdges r (rows c.as_slice-4.result.now) (length ts)) here (edges-served engine ts ps _ _ edges),
           (
@@ -64,6 +60,15 @@ any_lacks-requires g c = λ κs within.
           ),
         ),
       ),
+    )
+
+pub table_of-requires : goal.table_of-requires
+table_of-requires g c =
+    let ts = c.args.templates.now in
+    let ps = c.args.prefixes.now in
+    let ups = all-ups ts ps _ _ c.as_slice-5.ensures.value c.in_ok-ups.ensures in (
+      c.requires.1.0,
+      climbable-served (g.O.Objects.engine c.args.objects.now) ts ps g.registry _ (sym c.requires.1.1) c.requires.1.0 ups (grounded g.registry (climbed-faultless g.registry c.in-Ok.ensures.answer)),
     )
 
 pub returns-then-any_lacks-clause-answer : goal.returns-then-any_lacks-clause-answer

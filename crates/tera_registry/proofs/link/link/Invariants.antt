@@ -5,3 +5,6 @@ ghost-roots g a = g.registry
 
 abbrev pub ghost-any_lacks : goal.ghost-any_lacks
 ghost-any_lacks g a = g.registry
+
+abbrev pub ghost-table_of : goal.ghost-table_of
+ghost-table_of g a = g.registry

@@ -3,19 +3,22 @@ use Rattle.tera_errors.specs.Site.{Text}
 use Rattle.tera_errors.specs.Fault.{Fault}
 use Rattle.tera_errors.specs.Answer.{Gives}
 use Rattle.tera.specs.Registry.{registry_of}
-use Rattle.tera.proofs.ByName.{code-found, text-found, renders, not_there}
+use Rattle.tera.proofs.ByName.{own-root, code-found, text-found, renders, not_there}
 use Rattle.tera.proofs.engine.TeraOver.render.Goals as goal
 
 pub render_found-requires : goal.render_found-requires
 render_found-requires g c κs within =
     let r = registry_of g.O.Objects.engine c.args.self.now in
     let leads = c.in-Some.ensures r in
-    search (rules, leads.among, code-found r c.args.name.now c.in-Some.found leads)
+    let own = own-root r c.args.name.now c.in-Some.found leads _ c.root.ensures.code in
+    search (rules, leads.among, c.root.ensures.templates, code-found r c.args.name.now c.in-Some.found leads _ own)
 
 pub returns-in-Some : goal.returns-in-Some
 returns-in-Some g c =
     let r = registry_of g.O.Objects.engine c.args.self.now in
-    let is = text-found r c.args.name.now c.args.context.now c.in-Some.found (c.in-Some.ensures r) in
+    let leads = c.in-Some.ensures r in
+    let own = own-root r c.args.name.now c.in-Some.found leads _ c.root.ensures.code in
+    let is = text-found r c.args.name.now c.args.context.now c.in-Some.found leads _ own in
     let P : Result Text Fault → Type 0 = Gives (string_bytes {Z = Global}) c.render_found.result in
     renders r c.args.name.now c.args.context.now (string_bytes {Z = Global}) c.render_found.result (subst P is c.render_found.ensures)
 

@@ -13,12 +13,12 @@ pub returns-in-Err : goal.returns-in-Err
 returns-in-Err g c =
     let r = registry_of g.O.Objects.engine c.args.self.now in
     let caller = c.new-scopes in
-    component-unfit r c.args.args.now c.args.implicits.now (lent_text c.args.body) c.args.autoescape c.args.found (around_of caller.result) (variables_of caller.result) caller.ensures.around caller.ensures.variables c.in_ok-body.body (same_ok _ _ c.in_ok-body.ensures) c.in-Err.error c.requires c.in-Err.ensures
+    component-unfit r c.args.args.now c.args.implicits.now (lent_text c.args.body) c.args.autoescape c.args.found (around_of caller.result) (variables_of caller.result) caller.ensures.around caller.ensures.variables c.in_ok-body.body (same_ok _ _ c.in_ok-body.ensures) c.in-Err.error c.requires.defined c.in-Err.ensures
 
 pub returns : goal.returns
 returns g c =
     let caller = c.new-scopes in
     let r = registry_of g.O.Objects.engine c.args.self.now in
-    let is = component-runs r c.args.args.now c.args.implicits.now (lent_text c.args.body) c.args.autoescape c.args.found (around_of caller.result) (variables_of caller.result) caller.ensures.around caller.ensures.variables c.in_ok-body.body (same_ok _ _ c.in_ok-body.ensures) c.in-Ok.context (around_of c.enter_component.new.self) c.requires c.in-Ok.ensures c.in_ok-enter_component.ensures.around in
+    let is = component-runs r c.args.args.now c.args.implicits.now (lent_text c.args.body) c.args.autoescape c.args.found (around_of caller.result) (variables_of caller.result) caller.ensures.around caller.ensures.variables c.in_ok-body.body (same_ok _ _ c.in_ok-body.ensures) c.in-Ok.context (around_of c.enter_component.new.self) c.requires.defined c.in-Ok.ensures c.in_ok-enter_component.ensures.around in
     let P : Result Text Fault → Type 0 = Gives (string_bytes {Z = Global}) c.run_component.result in
     subst P is c.run_component.ensures

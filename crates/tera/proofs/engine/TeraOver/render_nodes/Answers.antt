@@ -1,4 +1,4 @@
-use Rattle.std.proofs.Common.{Global, map, None, Result, string_bytes, refl, sym, ap, ◌∙◌, subst}
+use Rattle.std.proofs.Common.{◌≡◌, Global, None, Result, string_bytes, refl, sym, ap, ◌∙◌, subst}
 use Rattle.tera_errors.specs.Site.{Text}
 use Rattle.tera_errors.specs.Fault.{Fault}
 use Rattle.tera_errors.specs.Answer.{Gives}
@@ -8,7 +8,9 @@ use Rattle.tera_meaning.specs.Components.{one_off_name}
 use Rattle.tera_meaning.specs.Known.{lacks_a_callee}
 use Rattle.tera_meaning.specs.Accepted.{misses_an_include}
 use Rattle.tera_code.specs.Listing.{Listing}
-use Rattle.tera_registry.specs.Components.{kept_of}
+use Rattle.tera_meaning.specs.Rendering.{is_component_beside}
+use Rattle.tera_registry.specs.Templates.{with_templates}
+use Rattle.tera_registry.specs.declared.templates.Templates.{Templates}
 use Rattle.tera_machine.specs.Subject.{Subject}
 use Rattle.tera.specs.Registry.{registry_of, is_there}
 use Rattle.tera.proofs.Renders.{lacking-says, missing-says, nothing-missing}
@@ -16,9 +18,11 @@ use Rattle.tera.proofs.engine.TeraOver.render_nodes.Goals as goal
 
 pub returns-then-lacks_a_callee : goal.returns-then-lacks_a_callee
 returns-then-lacks_a_callee g c =
-    let code = ap (λ (l : Listing). l.code) c.in_ok-chunk.ensures.ok in
-    let own = ap (map kept_of) c.as_slice.ensures.value ∙ c.in_ok-own.ensures.ok in
-    let lacks = c.lacks_a_callee.ensures (registry_of g.O.Objects.engine c.args.self.now) (let tree : Tree = record { parent = None; nodes = nodes_of c.args.nodes.now } in tree) one_off_name refl code own c.requires.1.1.1.1 in
+    let code = ap (λ (l : Listing). l.code) (c.in_ok-text.ensures.body ∙ c.in_ok-chunk.ensures.ok) in
+    let own = c.in_ok-text.ensures.components ∙ c.in_ok-own.ensures.ok in
+    let r = registry_of g.O.Objects.engine c.args.self.now in
+    let tree : Tree = record { parent = None; nodes = nodes_of c.args.nodes.now } in
+    let lacks = subst (λ (ts : Templates). c.lacks_a_callee.result ≡ lacks_a_callee r.engine (is_component_beside (with_templates r ts) tree) tree.nodes) c.in_ok-text.ensures.templates (c.lacks_a_callee.ensures r tree one_off_name refl code own c.requires.1.1.1.1) in
     let same = ap (λ (s : Subject). lacks_a_callee s.world.registry.engine (is_there s.world) s.tree) c.requires.1.1.1.0 in
     lacking-says g.about c.message.result (same ∙ sym lacks ∙ c.if-lacks_a_callee.true) c.message.ensures
 
@@ -30,9 +34,11 @@ returns-then-misses_an_include g c =
 
 pub returns : goal.returns
 returns g c =
-    let code = ap (λ (l : Listing). l.code) c.in_ok-chunk.ensures.ok in
-    let own = ap (map kept_of) c.as_slice.ensures.value ∙ c.in_ok-own.ensures.ok in
-    let lacks = c.lacks_a_callee.ensures (registry_of g.O.Objects.engine c.args.self.now) (let tree : Tree = record { parent = None; nodes = nodes_of c.args.nodes.now } in tree) one_off_name refl code own c.requires.1.1.1.1 in
+    let code = ap (λ (l : Listing). l.code) (c.in_ok-text.ensures.body ∙ c.in_ok-chunk.ensures.ok) in
+    let own = c.in_ok-text.ensures.components ∙ c.in_ok-own.ensures.ok in
+    let r = registry_of g.O.Objects.engine c.args.self.now in
+    let tree : Tree = record { parent = None; nodes = nodes_of c.args.nodes.now } in
+    let lacks = subst (λ (ts : Templates). c.lacks_a_callee.result ≡ lacks_a_callee r.engine (is_component_beside (with_templates r ts) tree) tree.nodes) c.in_ok-text.ensures.templates (c.lacks_a_callee.ensures r tree one_off_name refl code own c.requires.1.1.1.1) in
     let known = ap (λ (s : Subject). lacks_a_callee s.world.registry.engine (is_there s.world) s.tree) c.requires.1.1.1.0 ∙ sym lacks ∙ c.if-lacks_a_callee.false in
     let there = ap (λ (s : Subject). misses_an_include s.world.registry s.tree) c.requires.1.1.1.0 ∙ sym (c.misses_an_include.ensures (registry_of g.O.Objects.engine c.args.self.now)) ∙ c.if-misses_an_include.false in
     let P : Result Text Fault → Type 0 = Gives (string_bytes {Z = Global}) c.run_within.result in

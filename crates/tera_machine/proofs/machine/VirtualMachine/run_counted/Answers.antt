@@ -1,107 +1,94 @@
 use Rattle.std.proofs.Common.{arith, refl, ap, sym, length, ◌∙◌}
+use Rattle.tera_registry.specs.HandedOut.{code_of}
 use Rattle.tera_machine.specs.Config.{config_of}
 use Rattle.tera_machine.specs.Flow.{flow_of}
-use Rattle.tera_machine.proofs.Open.{begins, ready, is_small, few, broke, on, skip_fits, skips, to_fits, to, out, take_broke, goes_in, all_over, all_stays, texts_open, outer_open, goes_out, lacked_all}
+use Rattle.tera_machine.proofs.Open.{begins, ready, is_small, few, broke, on, skip_fits, skips, to_fits, to, out, takes_requested, take_broke, goes_in, all_over, all_stays, texts_open, outer_open, belong_again, goes_out, lacked_all}
 use Rattle.tera_machine.proofs.machine.VirtualMachine.run_counted.Goals as goal
 
 pub bodies-init : goal.bodies-init
-bodies-init g c = rw c.new-open.ensures (begins g.M.Limit.most g.M.Limit.world c.args.self.now c.args.first.now c.args.blocks.now c.args.configuration.now c.args.steps.now c.requires.linked c.requires.within)
+bodies-init g c = (c.chunk-chunk.ensures, (c.requires.belong, rw c.chunk-chunk.ensures (rw c.new-open.ensures (begins g.M.Limit.most g.M.Limit.world c.args.self.now (code_of c.args.first) c.args.blocks.now c.args.configuration.now c.args.steps.now c.requires.linked c.requires.within))))
 
 pub perform-requires-clause-ready : goal.perform-requires-clause-ready
-perform-requires-clause-ready g c = ready g.O.Objects.engine c.requires.engine c.bodies.invariant c.in-Some.ensures.found
+perform-requires-clause-ready g c = ready g.O.Objects.engine c.requires.engine c.bodies.invariant.1.1 c.in-Some.ensures.found
 
 pub perform-requires-clause-small : goal.perform-requires-clause-small
-perform-requires-clause-small g c = is_small g.O.Objects.engine c.requires.engine c.bodies.invariant c.in-Some.ensures.found c.in-Some.ensures.small
+perform-requires-clause-small g c = is_small g.O.Objects.engine c.requires.engine c.bodies.invariant.1.1 c.in-Some.ensures.found c.in-Some.ensures.small
 
 pub returns-in-Err-perform-clause-bounded : goal.returns-in-Err-perform-clause-bounded
-returns-in-Err-perform-clause-bounded g c = λ h. (few g.O.Objects.engine c.requires.engine c.bodies.invariant c.in-Some.ensures.count c.perform.ensures.stands).1
+returns-in-Err-perform-clause-bounded g c = λ h. (few g.O.Objects.engine c.requires.engine c.bodies.invariant.1.1 c.in-Some.ensures.count c.perform.ensures.stands).1
 
 pub returns-in-Err-perform-clause-ends : goal.returns-in-Err-perform-clause-ends
-returns-in-Err-perform-clause-ends g c = broke g.O.Objects.engine c.requires.engine c.bodies.invariant c.in-Some.ensures.count c.perform.ensures.stands _ _ c.in-Err-perform.ensures.does.0
+returns-in-Err-perform-clause-ends g c = broke g.O.Objects.engine c.requires.engine c.bodies.invariant.1.1 c.in-Some.ensures.count c.perform.ensures.stands _ _ c.in-Err-perform.ensures.does.0
 
 pub bodies-smaller-in-On : goal.bodies-smaller-in-On
-bodies-smaller-in-On g c = let l = few g.O.Objects.engine c.requires.engine c.bodies.invariant c.in-Some.ensures.count c.perform.ensures.stands in omega (arith, l.0, l.1)
+bodies-smaller-in-On g c = let l = few g.O.Objects.engine c.requires.engine c.bodies.invariant.1.1 c.in-Some.ensures.count c.perform.ensures.stands in omega (arith, l.0, l.1)
 
 pub bodies-preserved-in-On : goal.bodies-preserved-in-On
-bodies-preserved-in-On g c = on g.O.Objects.engine c.requires.engine c.bodies.invariant c.in-Some.ensures.count c.perform.ensures.stands c.perform.new.self c.in-Ok-perform.flow c.in-Ok-perform.ensures.does c.in-On.is
+bodies-preserved-in-On g c = (c.bodies.invariant.0, (c.bodies.invariant.1.0, on g.O.Objects.engine c.requires.engine c.bodies.invariant.1.1 c.in-Some.ensures.count c.perform.ensures.stands c.perform.new.self c.in-Ok-perform.flow c.in-Ok-perform.ensures.does c.in-On.is))
 
 pub bodies-smaller-in-Skip : goal.bodies-smaller-in-Skip
-bodies-smaller-in-Skip g c = let l = few g.O.Objects.engine c.requires.engine c.bodies.invariant c.in-Some.ensures.count c.perform.ensures.stands in omega (arith, l.0, l.1)
+bodies-smaller-in-Skip g c = let l = few g.O.Objects.engine c.requires.engine c.bodies.invariant.1.1 c.in-Some.ensures.count c.perform.ensures.stands in omega (arith, l.0, l.1)
 
 pub bodies-preserved-in-Skip : goal.bodies-preserved-in-Skip
-bodies-preserved-in-Skip g c = skips g.O.Objects.engine c.requires.engine c.bodies.invariant c.in-Some.ensures.count c.perform.ensures.stands c.perform.new.self c.in-Ok-perform.flow c.in-Ok-perform.ensures.does c.in-Skip.is
+bodies-preserved-in-Skip g c = (c.bodies.invariant.0, (c.bodies.invariant.1.0, skips g.O.Objects.engine c.requires.engine c.bodies.invariant.1.1 c.in-Some.ensures.count c.perform.ensures.stands c.perform.new.self c.in-Ok-perform.flow c.in-Ok-perform.ensures.does c.in-Skip.is))
 
 pub bodies-smaller-in-To : goal.bodies-smaller-in-To
-bodies-smaller-in-To g c = let l = few g.O.Objects.engine c.requires.engine c.bodies.invariant c.in-Some.ensures.count c.perform.ensures.stands in omega (arith, l.0, l.1)
+bodies-smaller-in-To g c = let l = few g.O.Objects.engine c.requires.engine c.bodies.invariant.1.1 c.in-Some.ensures.count c.perform.ensures.stands in omega (arith, l.0, l.1)
 
 pub bodies-preserved-in-To : goal.bodies-preserved-in-To
-bodies-preserved-in-To g c = to g.O.Objects.engine c.requires.engine c.bodies.invariant c.in-Some.ensures.count c.perform.ensures.stands c.perform.new.self c.in-Ok-perform.flow c.in-Ok-perform.ensures.does c.in-To.is
+bodies-preserved-in-To g c = (c.bodies.invariant.0, (c.bodies.invariant.1.0, to g.O.Objects.engine c.requires.engine c.bodies.invariant.1.1 c.in-Some.ensures.count c.perform.ensures.stands c.perform.new.self c.in-Ok-perform.flow c.in-Ok-perform.ensures.does c.in-To.is))
 
 pub bodies-smaller-in-Out : goal.bodies-smaller-in-Out
-bodies-smaller-in-Out g c = let l = few g.O.Objects.engine c.requires.engine c.bodies.invariant c.in-Some.ensures.count c.perform.ensures.stands in omega (arith, l.0, l.1)
+bodies-smaller-in-Out g c = let l = few g.O.Objects.engine c.requires.engine c.bodies.invariant.1.1 c.in-Some.ensures.count c.perform.ensures.stands in omega (arith, l.0, l.1)
 
 pub bodies-preserved-in-Out : goal.bodies-preserved-in-Out
-bodies-preserved-in-Out g c = rw c.len-at.ensures (out g.O.Objects.engine c.requires.engine c.bodies.invariant c.in-Some.ensures.count c.perform.ensures.stands c.perform.new.self c.in-Ok-perform.flow c.in-Ok-perform.ensures.does c.in-Out.is)
+bodies-preserved-in-Out g c = (c.bodies.invariant.0, (c.bodies.invariant.1.0, rw c.len-at.ensures (out g.O.Objects.engine c.requires.engine c.bodies.invariant.1.1 c.in-Some.ensures.count c.perform.ensures.stands c.perform.new.self c.in-Ok-perform.flow c.in-Ok-perform.ensures.does c.in-Out.is)))
 
 pub overflow_add-at : goal.overflow_add-at
-overflow_add-at g c = omega (arith, skip_fits g.O.Objects.engine c.requires.engine c.bodies.invariant c.in-Some.ensures.count c.perform.ensures.stands c.perform.new.self c.in-Ok-perform.flow c.in-Ok-perform.ensures.does c.in-Skip.is, c.in-Some.ensures.small)
+overflow_add-at g c = omega (arith, skip_fits g.O.Objects.engine c.requires.engine c.bodies.invariant.1.1 c.in-Some.ensures.count c.perform.ensures.stands c.perform.new.self c.in-Ok-perform.flow c.in-Ok-perform.ensures.does c.in-Skip.is, c.in-Some.ensures.small)
 
 pub overflow_add-at-in-To : goal.overflow_add-at-in-To
-overflow_add-at-in-To g c = omega (arith, to_fits g.O.Objects.engine c.requires.engine c.bodies.invariant c.in-Some.ensures.count c.perform.ensures.stands c.perform.new.self c.in-Ok-perform.flow c.in-Ok-perform.ensures.does c.in-To.is, c.in-Some.ensures.small)
+overflow_add-at-in-To g c = omega (arith, to_fits g.O.Objects.engine c.requires.engine c.bodies.invariant.1.1 c.in-Some.ensures.count c.perform.ensures.stands c.perform.new.self c.in-Ok-perform.flow c.in-Ok-perform.ensures.does c.in-To.is, c.in-Some.ensures.small)
 
 pub returns-in-Err-take-clause-bounded : goal.returns-in-Err-take-clause-bounded
-returns-in-Err-take-clause-bounded g c = λ h. (few g.O.Objects.engine c.requires.engine c.bodies.invariant c.in-Some.ensures.count c.perform.ensures.stands).1
+returns-in-Err-take-clause-bounded g c = λ h. (few g.O.Objects.engine c.requires.engine c.bodies.invariant.1.1 c.in-Some.ensures.count c.perform.ensures.stands).1
 
 pub returns-in-Err-take-clause-ends : goal.returns-in-Err-take-clause-ends
-returns-in-Err-take-clause-ends g c = take_broke g.O.Objects.engine c.requires.engine c.bodies.invariant c.in-Some.ensures.count c.perform.ensures.stands c.perform.new.self c.in-Ok-perform.flow c.in-Ok-perform.ensures.does (ap flow_of c.in-Ask.is) c.bodies.machine _ _ c.in-Err-take.error c.take.new.configuration c.in-Err-take.ensures
-
-pub bodies-smaller-in-Ask : goal.bodies-smaller-in-Ask
-bodies-smaller-in-Ask g c = let l = few g.O.Objects.engine c.requires.engine c.bodies.invariant c.in-Some.ensures.count c.perform.ensures.stands in omega (arith, l.0, l.1, ap length c.in-Ok-take.ensures.is)
-
-pub bodies-preserved-in-Ask : goal.bodies-preserved-in-Ask
-bodies-preserved-in-Ask g c = goes_in g.O.Objects.engine c.requires.engine c.bodies.invariant c.in-Some.ensures.count c.perform.ensures.stands c.perform.new.self c.in-Ok-perform.flow c.in-Ok-perform.ensures.does (ap flow_of c.in-Ask.is) c.in-Ok-take.ensures refl
-
-pub returns-in-Err-include-clause-bounded : goal.returns-in-Err-include-clause-bounded
-returns-in-Err-include-clause-bounded g c = λ h. (few g.O.Objects.engine c.requires.engine c.bodies.invariant c.in-Some.ensures.count c.perform.ensures.stands).1
-
-pub returns-in-Err-include-clause-ends : goal.returns-in-Err-include-clause-ends
-returns-in-Err-include-clause-ends g c = take_broke g.O.Objects.engine c.requires.engine c.bodies.invariant c.in-Some.ensures.count c.perform.ensures.stands c.perform.new.self c.in-Ok-perform.flow c.in-Ok-perform.ensures.does (ap flow_of c.in-Include.is) c.include.new.self _ _ c.in-Err-include.error c.include.new.configuration c.in-Err-include.ensures
-
-pub bodies-smaller-in-Include : goal.bodies-smaller-in-Include
-bodies-smaller-in-Include g c = let l = few g.O.Objects.engine c.requires.engine c.bodies.invariant c.in-Some.ensures.count c.perform.ensures.stands in omega (arith, l.0, l.1, ap length c.in-Ok-include.ensures.is)
-
-pub bodies-preserved-in-Include : goal.bodies-preserved-in-Include
-bodies-preserved-in-Include g c = goes_in g.O.Objects.engine c.requires.engine c.bodies.invariant c.in-Some.ensures.count c.perform.ensures.stands c.perform.new.self c.in-Ok-perform.flow c.in-Ok-perform.ensures.does (ap flow_of c.in-Include.is) c.in-Ok-include.ensures refl
-
-pub returns-in-Err-component-clause-bounded : goal.returns-in-Err-component-clause-bounded
-returns-in-Err-component-clause-bounded g c = λ h. (few g.O.Objects.engine c.requires.engine c.bodies.invariant c.in-Some.ensures.count c.perform.ensures.stands).1
-
-pub returns-in-Err-component-clause-ends : goal.returns-in-Err-component-clause-ends
-returns-in-Err-component-clause-ends g c = take_broke g.O.Objects.engine c.requires.engine c.bodies.invariant c.in-Some.ensures.count c.perform.ensures.stands c.perform.new.self c.in-Ok-perform.flow c.in-Ok-perform.ensures.does (ap flow_of c.in-Component.is) c.component.new.self _ _ c.in-Err-component.error c.component.new.configuration c.in-Err-component.ensures
+returns-in-Err-take-clause-ends g c = take_broke g.O.Objects.engine c.requires.engine c.bodies.invariant.1.1 c.in-Some.ensures.count c.perform.ensures.stands c.perform.new.self c.in-Ok-perform.flow c.in-Ok-perform.ensures.does (ap flow_of c.in-Ask.is) c.bodies.body c.bodies.invariant.0 c.take.new.self _ _ c.in-Err-take.error c.take.new.configuration c.in-Err-take.ensures
 
 pub bodies-smaller : goal.bodies-smaller
-bodies-smaller g c = let l = few g.O.Objects.engine c.requires.engine c.bodies.invariant c.in-Some.ensures.count c.perform.ensures.stands in omega (arith, l.0, l.1, ap length c.in-Ok-component.ensures.is)
+bodies-smaller g c = let l = few g.O.Objects.engine c.requires.engine c.bodies.invariant.1.1 c.in-Some.ensures.count c.perform.ensures.stands in omega (arith, l.0, l.1, ap length c.in-Ok-take.ensures.is)
 
 pub bodies-preserved : goal.bodies-preserved
-bodies-preserved g c = goes_in g.O.Objects.engine c.requires.engine c.bodies.invariant c.in-Some.ensures.count c.perform.ensures.stands c.perform.new.self c.in-Ok-perform.flow c.in-Ok-perform.ensures.does (ap flow_of c.in-Component.is) c.in-Ok-component.ensures refl
+bodies-preserved g c =
+    let inv = c.bodies.invariant in
+    let t = c.in-Ok-take.ensures in
+    (c.chunk-chunk-in-Ask.ensures, (t.belong, rw c.chunk-chunk-in-Ask.ensures (goes_in g.O.Objects.engine c.requires.engine inv.1.1 c.in-Some.ensures.count c.perform.ensures.stands c.perform.new.self c.in-Ok-perform.flow c.in-Ok-perform.ensures.does (ap flow_of c.in-Ask.is) c.bodies.body inv.0 t refl inv.1.0)))
 
 pub returns-then-len-eq0-clause-ends : goal.returns-then-len-eq0-clause-ends
-returns-then-len-eq0-clause-ends g c = all_over c.bodies.invariant c.in_default.ensures.found c.in_default.ensures.count (sym c.len.ensures.count ∙ c.if-len-eq0.true)
+returns-then-len-eq0-clause-ends g c = all_over c.bodies.invariant.1.1 c.in_default.ensures.found c.in_default.ensures.count (sym c.len.ensures.count ∙ c.if-len-eq0.true)
 
 pub returns-then-len-eq0-clause-stays : goal.returns-then-len-eq0-clause-stays
-returns-then-len-eq0-clause-stays g c = all_stays c.bodies.invariant c.in_default.ensures.found c.in_default.ensures.count (sym c.len.ensures.count ∙ c.if-len-eq0.true)
+returns-then-len-eq0-clause-stays g c = all_stays c.bodies.invariant.1.1 c.in_default.ensures.found c.in_default.ensures.count (sym c.len.ensures.count ∙ c.if-len-eq0.true)
 
 pub leave-requires-clause-text : goal.leave-requires-clause-text
-leave-requires-clause-text g c = texts_open c.bodies.invariant c.in_default.ensures.found c.in_default.ensures.count (λ e. c.if-len-eq0.false (c.len.ensures.count ∙ e))
+leave-requires-clause-text g c = texts_open c.bodies.invariant.1.1 c.in_default.ensures.found c.in_default.ensures.count (λ e. c.if-len-eq0.false (c.len.ensures.count ∙ e))
 
 pub leave-requires-clause-state : goal.leave-requires-clause-state
-leave-requires-clause-state g c = outer_open c.bodies.invariant c.in_default.ensures.found c.in_default.ensures.count
+leave-requires-clause-state g c = outer_open c.bodies.invariant.1.1 c.in_default.ensures.found c.in_default.ensures.count
 
 pub returns-in-Err-clause-ends : goal.returns-in-Err-clause-ends
-returns-in-Err-clause-ends g c = lacked_all g.M.Limit.world (record { machine = c.args.self.now; code = c.args.first.now; blocks = c.args.blocks.now; configuration = c.args.configuration.now; count = c.args.steps.now }) c.in-Err.error (config_of c.leave.new.configuration) c.get.new.steps c.in-Err.ensures.lacks
+returns-in-Err-clause-ends g c = lacked_all g.M.Limit.world (record { machine = c.args.self.now; code = code_of c.args.first; blocks = c.args.blocks.now; configuration = c.args.configuration.now; count = c.args.steps.now }) c.in-Err.error (config_of c.leave.new.configuration) c.get.new.steps c.in-Err.ensures.lacks
 
 pub bodies-smaller-in_default : goal.bodies-smaller-in_default
 bodies-smaller-in_default g c = omega (arith, c.in_default.ensures.count, ap length c.in-Ok.ensures.ok.is)
 
 pub bodies-preserved-in_default : goal.bodies-preserved-in_default
-bodies-preserved-in_default g c = goes_out c.bodies.invariant c.in_default.ensures.found c.in_default.ensures.count c.in-Ok.ensures.ok
+bodies-preserved-in_default g c =
+    let g' = c.bodies.invariant.1.1 in
+    (c.chunk-chunk-in_default.ensures, (belong_again g' c.in_default.ensures.found c.in_default.ensures.count c.in-Ok.ensures.ok, rw c.chunk-chunk-in_default.ensures (goes_out g' c.in_default.ensures.found c.in_default.ensures.count c.in-Ok.ensures.ok)))
+
+pub take-requires-clause-takes : goal.take-requires-clause-takes
+take-requires-clause-takes g c =
+    let inv = c.bodies.invariant in
+    takes_requested g.O.Objects.engine c.requires.engine inv.1.1 c.in-Some.ensures.count c.perform.ensures.stands c.perform.new.self c.in-Ok-perform.flow c.in-Ok-perform.ensures.does (ap flow_of c.in-Ask.is) c.bodies.body inv.0 c.in-Ask.request refl

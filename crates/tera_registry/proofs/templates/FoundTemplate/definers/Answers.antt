@@ -1,19 +1,37 @@
-use Rattle.std.proofs.Common.{Some, refl, sym, ap, ◌∙◌, arith}
-use Rattle.std.proofs.lemmas.Option.{slice_get_within}
-use Rattle.tera_meaning.specs.Lineage.{definers_from}
-use Rattle.tera_registry.specs.Kept.{entries_of}
-use Rattle.tera_registry.specs.Templates.{with_templates}
-use Rattle.tera_registry.proofs.Kept.{length-entries, named-position}
+use Rattle.std.proofs.Common.{◌∷◌, Some, refl, sym, ap, ◌∙◌}
+use Rattle.tera_meaning.specs.Lineage.{ancestors, definers_from}
+use Rattle.tera_registry.specs.Numbers.{first_of, from_first, lineage, lineage_from}
+use Rattle.tera_registry.specs.Templates.{with_templates, registry_in}
+use Rattle.tera_registry.proofs.Ancestors.{grounded}
+use Rattle.tera_registry.proofs.Counted.{found-entry, found-within}
+use Rattle.tera_registry.proofs.Numbered.{block-of-first, from-lineage, template-climbs}
 use Rattle.tera_registry.proofs.templates.FoundTemplate.definers.Goals as goal
 
-pub first-requires : goal.first-requires
-first-requires c =
-    let ts = c.args.self.now.templates.now in
-    let e = named-position (entries_of ts.all.items) c.args.self.now.position c.args.self.now.name.now ts.rises c.args.self.now.stands in
-    (refl, omega (arith, slice_get_within (entries_of ts.all.items) c.args.self.now.position e.0 e.1, length-entries ts.all.items))
+pub first_number-requires : goal.first_number-requires
+first_number-requires c = (refl, found-within c.args.self.now)
 
-pub returns : goal.returns
-returns c = λ r.
-    let ts = c.args.self.now.templates.now in
-    let e = named-position (entries_of ts.all.items) c.args.self.now.position c.args.self.now.name.now ts.rises c.args.self.now.stands in
-    c.first.ensures e.0 e.1 ∙ ap (λ b. definers_from (with_templates r ts) b (Some e.0)) c.new-sought.ensures ∙ sym (ap (definers_from (with_templates r ts) c.args.block.now) e.2)
+pub definers_from-requires : goal.definers_from-requires
+definers_from-requires c =
+    let f = c.args.self.now in
+    let ts = f.templates.now in
+    let e = found-entry f in
+    let r = registry_in ts in
+    let those = e.0 ∷ ancestors r e.0 in
+    block-of-first r c.args.block.now those _ (c.first_number.ensures e.0 e.1 ∙ ap (λ b. first_of (lineage r b those)) c.new-sought.ensures)
+
+pub returns-clause-those : goal.returns-clause-those
+returns-clause-those c = λ r.
+    let f = c.args.self.now in
+    let ts = f.templates.now in
+    let q = registry_in ts in
+    let e = found-entry f in
+    let ok = (grounded q ts.faultless).each f.position e.0 e.1 in
+    c.definers_from.ensures.those ∙ ap (from_first q) (c.first_number.ensures e.0 e.1) ∙ from-lineage q _ (e.0 ∷ ancestors q e.0) (template-climbs q f.position e.0 ts.rises e.1 ok)
+    ∙ ap (λ b. definers_from (with_templates r ts) b (Some e.0)) c.new-sought.ensures ∙ sym (ap (definers_from (with_templates r ts) c.args.block.now) e.2)
+
+pub returns-clause-number : goal.returns-clause-number
+returns-clause-number c = λ r.
+    let f = c.args.self.now in
+    let ts = f.templates.now in
+    let e = found-entry f in
+    c.definers_from.ensures.number ∙ c.first_number.ensures e.0 e.1 ∙ ap (λ b. first_of (lineage_from (with_templates r ts) b (Some e.0))) c.new-sought.ensures ∙ sym (ap (λ o. first_of (lineage_from (with_templates r ts) c.args.block.now o)) e.2)

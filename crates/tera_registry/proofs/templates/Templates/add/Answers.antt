@@ -1,8 +1,9 @@
 use Rattle.std.proofs.Common.{refl}
 use Rattle.tera_syntax_tree.specs.Delimiters.{delimiters_of}
 use Rattle.tera_registry.specs.Batch.{pairs_of}
-use Rattle.tera_registry.proofs.Adds.{copies-rise, add-unread, add-unlinked, add-linked, kept-faultless, kept-placed, kept-linked, kept-chosen}
-use Rattle.tera_registry.proofs.Leading.{kept-right}
+use Rattle.tera_registry.proofs.Aboves.{kept-climbed}
+use Rattle.tera_registry.proofs.Adds.{copies-rise, add-unread, add-unlinked, add-linked, kept-faultless, kept-placed, kept-rooted, kept-chosen}
+use Rattle.tera_registry.proofs.Leading.{kept-right, kept-whole, kept-starting}
 use Rattle.tera_registry.proofs.templates.Templates.add.Goals as goal
 
 pub put_all-requires-clause-rises : goal.put_all-requires-clause-rises
@@ -21,9 +22,12 @@ invariant_of-self g c = record {
   rises = c.in-Ok.ensures.rises;
   faultless = kept-faultless (g.O.Objects.engine c.args.objects.now) c.put_all.new.templates.items _ c.args.self.now.prefixes.items _ c.as_slice.ensures.value c.as_slice-2.ensures.value c.in-Ok-link.ensures.answer;
   placed = kept-placed (g.O.Objects.engine c.args.objects.now) c.put_all.new.templates.items _ c.args.self.now.prefixes.items _ c.as_slice.ensures.value c.as_slice-2.ensures.value _ c.in-Ok-link.ensures.ups;
-  linked = kept-linked (g.O.Objects.engine c.args.objects.now) c.put_all.new.templates.items _ c.args.self.now.prefixes.items _ c.as_slice.ensures.value c.as_slice-2.ensures.value _ c.in-Ok-link.ensures.roots;
+  rooted = kept-rooted (g.O.Objects.engine c.args.objects.now) c.put_all.new.templates.items _ c.args.self.now.prefixes.items _ c.as_slice.ensures.value c.as_slice-2.ensures.value _ c.in-Ok-link.ensures.roots;
   chosen = kept-chosen (g.O.Objects.engine c.args.objects.now) c.put_all.new.templates.items _ c.args.self.now.prefixes.items _ c.as_slice.ensures.value c.as_slice-2.ensures.value c.in-Ok-link.links.choices c.in-Ok-link.ensures.choices;
-  right = kept-right c.put_all.new.templates.items _ c.args.self.now.prefixes.items _ c.in-Ok-link.links.choices c.in-Ok-link.links.table.bodies.items c.as_slice.ensures.value c.as_slice-2.ensures.value c.in-Ok-link.ensures.table;
+  whole = kept-whole c.put_all.new.templates.items _ c.in-Ok-link.links.table.entries.items c.as_slice.ensures.value c.in-Ok-link.ensures.whole;
+  starting = kept-starting c.put_all.new.templates.items _ c.in-Ok-link.links.table.starts.items c.as_slice.ensures.value c.in-Ok-link.ensures.starts;
+  right = kept-right c.put_all.new.templates.items _ c.args.self.now.prefixes.items _ c.in-Ok-link.links.choices c.in-Ok-link.links.table.entries.items c.as_slice.ensures.value c.as_slice-2.ensures.value c.in-Ok-link.ensures.right;
+  climbed = kept-climbed (g.O.Objects.engine c.args.objects.now) c.put_all.new.templates.items _ c.args.self.now.prefixes.items _ c.in-Ok-link.links.table.entries.items c.as_slice.ensures.value c.as_slice-2.ensures.value c.in-Ok-link.ensures.aboves;
 }
 
 pub returns : goal.returns

@@ -6,8 +6,8 @@ use Rattle.tera_registry.proofs.Definitions.{component-none}
 use Rattle.tera_registry.proofs.Listed.{chosen-in-all}
 use Rattle.tera_registry.proofs.templates.Templates.component.Goals as goal
 
-pub returns-in_err-choice : goal.returns-in_err-choice
-returns-in_err-choice c = λ r.
+pub returns-in_err-choice-clause-defined : goal.returns-in_err-choice-clause-defined
+returns-in_err-choice-clause-defined c = λ r.
     let self = c.args.self.now in
     let q = with_templates r self in
     let name = c.args.name.now in
@@ -17,5 +17,5 @@ returns-in_err-choice c = λ r.
 pub defined_at-requires : goal.defined_at-requires
 defined_at-requires c = record { name = c.args.name.now; is = sym c.in_ok-choice.ensures.value }
 
-pub returns : goal.returns
-returns c = λ r. c.defined_at.ensures r c.args.name.now (sym c.in_ok-choice.ensures.value)
+pub returns-clause-defined : goal.returns-clause-defined
+returns-clause-defined c = λ r. c.defined_at.ensures.defined r c.args.name.now (sym c.in_ok-choice.ensures.value)

@@ -1,32 +1,46 @@
-use Rattle.std.proofs.Common.{◌≡◌, Some, refl, sym, ◌∙◌, arith}
-use Rattle.tera_registry.specs.Choices.{chosen_of}
-use Rattle.tera_registry.specs.Templates.{with_templates, registry_in}
-use Rattle.tera_registry.proofs.Listed.{chosen-in-all, taken-within, taken-in, taken-component-within, taken-defined}
+use Rattle.std.proofs.Common.{◌≡◌, length, refl, sym, ap, ◌∙◌, arith, slice_get}
+use Rattle.tera_registry.specs.Bodies.{listings}
+use Rattle.tera_registry.specs.Templates.{templates_of}
+use Rattle.tera_registry.proofs.Counted.{entry-within}
+use Rattle.tera_registry.proofs.Listed.{template-within, component-within, body-within, defined-so}
 use Rattle.tera_registry.proofs.templates.Templates.defined_at.Goals as goal
 
 pub index-requires : goal.index-requires
 index-requires c =
     let self = c.args.self.now in
-    let choice = c.args.choice in
-    let name = c.requires.name in
-    let taken : chosen_of (registry_in self) name ≡ Some choice = sym (self.chosen name) ∙ c.requires.is in
-    omega (arith, taken-within (registry_in self) self.all.items name choice refl taken, self.all.ok)
+    omega (arith, template-within self c.args.choice c.requires, self.all.ok)
 
 pub index-component-requires : goal.index-component-requires
 index-component-requires c =
-    let self = c.args.self.now in
-    let choice = c.args.choice in
-    let name = c.requires.name in
-    let taken : chosen_of (registry_in self) name ≡ Some choice = sym (self.chosen name) ∙ c.requires.is in
-    let at = taken-in (registry_in self) self.all.items name choice c.index.result.now refl taken c.index.ensures in
-    let u = c.index.result.now.value in
-    rw c.deref-template.ensures (omega (arith, taken-component-within (registry_in self) name choice u at, u.components.ok))
+    let kept = c.deref-template.result.now in
+    omega (arith, component-within c.args.self.now c.args.choice c.requires c.index.result.now kept c.index.ensures c.deref-template.ensures, kept.components.ok)
 
-pub returns : goal.returns
-returns c = λ r name is.
+pub overflow_add-offset-2 : goal.overflow_add-offset-2
+overflow_add-offset-2 c =
     let self = c.args.self.now in
-    let q = with_templates r self in
-    let choice = c.args.choice in
-    let taken : chosen_of q name ≡ Some choice = sym (chosen-in-all q self.choices self.chosen name) ∙ is in
-    let at = taken-in q self.all.items name choice c.index.result.now refl taken c.index.ensures in
-    taken-defined q name choice c.index.result.now.value c.index-component.result.now _ at (rw c.deref-template.ensures at c.index-component.ensures) refl refl
+    let kept = c.deref-template.result.now in
+    let there = body-within self c.args.choice c.requires c.index.result.now kept c.index.ensures c.deref-template.ensures c.len.result (omega (arith, c.len.ensures, kept.blocks.ok)) in
+    omega (arith, there, entry-within self _ there, self.table.entries.ok)
+
+pub number-requires : goal.number-requires
+number-requires c =
+    let self = c.args.self.now in
+    let kept = c.deref-template.result.now in
+    record {
+      template = template-within self c.args.choice c.requires;
+      there = body-within self c.args.choice c.requires c.index.result.now kept c.index.ensures c.deref-template.ensures c.len.result (omega (arith, c.len.ensures, kept.blocks.ok));
+    }
+
+pub body-requires : goal.body-requires
+body-requires c =
+    let kept = c.deref-template.result.now in
+    let there = body-within c.args.self.now c.args.choice c.requires c.index.result.now kept c.index.ensures c.deref-template.ensures c.len.result (omega (arith, c.len.ensures, kept.blocks.ok)) in
+    omega (arith, there, c.number.ensures)
+
+pub returns-clause-defined : goal.returns-clause-defined
+returns-clause-defined c = λ r name is.
+    let self = c.args.self.now in
+    let kept = c.deref-template.result.now in
+    let many : c.len.result ≡ length kept.blocks.items = omega (arith, c.len.ensures, kept.blocks.ok) in
+    let code = ap (slice_get (listings (templates_of self))) (sym c.number.ensures) ∙ c.body.ensures.code in
+    defined-so self c.args.choice c.requires c.index.result.now kept c.index.ensures c.deref-template.ensures r name c.len.result c.index-component.result.now _ is many c.index-component.ensures refl code

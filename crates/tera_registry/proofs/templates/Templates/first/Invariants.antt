@@ -1,4 +1,0 @@
-use Rattle.tera_registry.proofs.templates.Templates.first.Given as goal
-
-abbrev pub ghost-first : goal.ghost-first
-ghost-first g a = g.registry

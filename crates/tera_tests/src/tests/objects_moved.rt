@@ -48,7 +48,8 @@ fn objects_are_moved(rt: HostRuntime) {
     assert!(rt; is_right);
 }
 
-fn holds(alloc: Global, held: &RcStr) -> TeraResult<Holds> {
+/// An object that holds the text.
+pub fn holds(alloc: Global, held: &RcStr) -> TeraResult<Holds> {
     Ok(Holds {
         held: held.clone()?,
     })

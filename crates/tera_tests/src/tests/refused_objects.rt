@@ -1,10 +1,11 @@
 //! Objects that are registered and moved where memory is refused, at the first request, at the second one, and so on.
 use super::cases::wrong_by;
-use super::objects_moved::{first, second};
+use super::objects_moved::{first, holds, second};
 use super::tried::{answered, refused};
 use crate::own::{Asks, Holding, saying};
 use scarce_memory::{Tried, refusals, with_budget, with_little};
 use std::alloc::Global;
+use std::rc::RcStr;
 use tera::{Context, Tera, TeraResult, Value};
 
 /// What is asked of the engine.
@@ -132,5 +133,87 @@ fn escapes_without_memory(alloc: Global) -> TeraResult<bool> {
 #[test]
 fn escapes_are_set_without_memory(rt: HostRuntime) {
     let is_right = matches!(escapes_without_memory(rt.alloc()), Ok(true));
+    assert!(rt; is_right);
+}
+
+/// How an object comes to an engine.
+#[derive(Clone, Copy)]
+enum Way {
+    Filter,
+    Test,
+    Function,
+    FromAnother,
+}
+
+fn engine_of_holders(alloc: Global, held: &RcStr) -> TeraResult<Tera> {
+    let mut engine = Tera::new(alloc)?;
+    engine.register_filter("a", Box::new(alloc, holds(alloc, held)?)?)?;
+    engine.register_test("a", Box::new(alloc, holds(alloc, held)?)?)?;
+    engine.register_function("a", Box::new(alloc, holds(alloc, held)?)?)?;
+    Ok(engine)
+}
+
+fn register_holder(
+    alloc: Global,
+    engine: &mut Tera,
+    held: &RcStr,
+    way: Way,
+    budget: usize,
+) -> Option<TeraResult<()>> {
+    match way {
+        Way::Filter => {
+            let filter = Box::new(alloc, holds(alloc, held).ok()?).ok()?;
+            with_budget(alloc, budget, || engine.register_filter("a", filter))
+        }
+        Way::Test => {
+            let test = Box::new(alloc, holds(alloc, held).ok()?).ok()?;
+            with_budget(alloc, budget, || engine.register_test("a", test))
+        }
+        Way::Function => {
+            let function = Box::new(alloc, holds(alloc, held).ok()?).ok()?;
+            with_budget(alloc, budget, || engine.register_function("a", function))
+        }
+        Way::FromAnother => {
+            let other = engine_of_holders(alloc, held).ok()?;
+            with_budget(alloc, budget, || engine.register_from(other))
+        }
+    }
+}
+
+// How many of these calls find what they call.
+fn count_known(engine: &Tera, context: &Context) -> usize {
+    ["{{ 1 | a }}", "{{ 1 is a }}", "{{ a() }}"]
+        .iter()
+        .filter(|text| engine.render_str(text, context, false).is_ok())
+        .count()
+}
+
+// Whether the text is held by the objects that the engine has, and by no other: one that was refused is dropped at once.
+fn try_holder(alloc: Global, held: &RcStr, way: Way, budget: usize) -> Tried {
+    let Ok(mut engine) = Tera::new(alloc) else {
+        return Tried::Wrong;
+    };
+    let before = RcStr::strong_count(held);
+    let ended = register_holder(alloc, &mut engine, held, way, budget);
+    let many = count_known(&engine, &Context::new(alloc));
+    let is_right = RcStr::strong_count(held).checked_sub(before) == Some(many);
+    drop(engine);
+    let all_dropped = RcStr::strong_count(held) == before;
+    match ended {
+        Some(Ok(())) => answered(is_right && all_dropped && many > 0),
+        Some(Err(error)) => refused(&error, is_right && all_dropped),
+        None => Tried::Wrong,
+    }
+}
+
+#[test]
+fn what_is_refused_is_dropped(rt: HostRuntime) {
+    let alloc = rt.alloc();
+    let is_right = match RcStr::from_str(alloc, "held") {
+        Ok(held) => [Way::Filter, Way::Test, Way::Function, Way::FromAnother]
+            .iter()
+            .all(|way| refusals(alloc, |budget| try_holder(alloc, &held, *way, budget)).is_some()),
+        Err(_) => false,
+    };
     assert!(rt; is_right);
 }

@@ -26,6 +26,7 @@ pub mod Items
 pub mod Join
 pub mod Attributes
 pub mod Sorting
+pub mod Laws
 pub mod Ranks
 pub mod Groups
 pub mod Gathering

@@ -12,6 +12,7 @@ pub mod groups;
 pub mod indent;
 pub mod items;
 pub mod join;
+pub mod laws;
 pub mod maps;
 pub mod markup;
 pub mod numbers;

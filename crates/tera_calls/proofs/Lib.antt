@@ -1,3 +1,5 @@
+mod Accepting
 mod Answered
 mod Ended
 mod InARow
+mod Refusals

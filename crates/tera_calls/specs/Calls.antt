@@ -5,7 +5,7 @@ use Rattle.tera_errors.specs.Answer.{SeenError}
 use Rattle.tera_syntax_tree.specs.Delimiters.{delimiters_of}
 use Rattle.tera_values.specs.Escape.{escape_html}
 use Rattle.tera_values.specs.Val.{Val}
-use Rattle.tera_values.specs.Named.{put}
+use Rattle.tera_values.specs.Named.{Named, put}
 use Rattle.tera_objects.specs.Engine.{with_escape, with_filter, with_test, with_function}
 use Rattle.tera_objects.specs.Kept.{Meanings, engine_of}
 use Rattle.tera_meaning.specs.Registry.{Registry}
@@ -14,11 +14,15 @@ use Rattle.tera.specs.Configuring.{Configures, with_delimiters, with_prefixes, w
 use Rattle.tera.specs.Lent.{texts_of}
 use Rattle.tera.specs.Registering.{with_engine, MovesFrom}
 use Rattle.tera_calls.specs.declared.call.CallOver.{CallOver}
-use Rattle.tera_calls.specs.declared.call.CallOver.TheVariants.{SetDelimiters, SetFallbackPrefixes, AutoescapeOn, InsertGlobal, AddRawTemplate, AddRawTemplates, SetEscapeFn, ResetEscapeFn, RegisterFilter, RegisterTest, RegisterFunction, RegisterFrom}
+use Rattle.tera_calls.specs.declared.call.CallOver.TheVariants.{SetDelimiters, SetFallbackPrefixes, AutoescapeOn, InsertGlobal, SetGlobal, AddRawTemplate, AddRawTemplates, SetEscapeFn, ResetEscapeFn, RegisterFilter, RegisterTest, RegisterFunction, RegisterFrom}
 
 -- the registry with this value at this name of the global context
 abbrev pub with_global : Name → Val → Registry → Registry
 with_global name value r = record r { global = put name value r.global }
+
+-- the registry with another global context
+abbrev pub with_context : Named Val → Registry → Registry
+with_context context r = record r { global = context }
 
 -- what a call answers that has nothing to tell
 abbrev pub Answer : Type 0
@@ -38,6 +42,8 @@ module _ {E F T G : Type 0} (objects : Meanings E F T G) where
       Configures answer (Ok (with_suffixes (texts_of suffixes.now) now)) now next
   Ends (InsertGlobal name value) answer now next =
       Configures answer (Ok (with_global name.now value now)) now next
+  Ends (SetGlobal context) answer now next =
+      Configures answer (Ok (with_context context now)) now next
   Ends (AddRawTemplate name content) answer now next =
       ConfiguresOneOf answer (Adds now ((name.now, content.now) ∷ [])) now next
   Ends (AddRawTemplates templates) answer now next =

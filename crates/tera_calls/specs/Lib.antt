@@ -1,3 +1,3 @@
 pub mod Calls
 pub mod Renders
-pub mod After
+pub mod Laws

@@ -1,14 +1,15 @@
 // Calls that configure an engine and add to it, one after another.
 ghost use Rattle.std.specs.Prelude.{◌≡◌, Ok, IfOk, IfErr, OnErr};
 ghost use Rattle.tera.specs.Prelude.{Configures, registry_of};
-ghost use Rattle.tera_calls.specs.Calls.{Ends, Leads, with_global};
+ghost use Rattle.tera_calls.specs.Calls.{Ends, Leads, with_context, with_global};
 ghost use Rattle.tera_errors.specs.Prelude.{Lacks};
+ghost use Rattle.tera_meaning.specs.Prelude.{IsAccepted};
 
 use crate::boxed::Meant;
 use std::alloc::Global;
 use tera::{
-    CallerObjects, Delimiters, EscapeFn, Filter, Function, Objects, Tera, TeraOver, TeraResult,
-    Test, Value,
+    CallerObjects, Context, Delimiters, EscapeFn, Filter, Function, Objects, Tera, TeraOver,
+    TeraResult, Test, Value,
 };
 use tera_objects::ObjectsOver;
 
@@ -31,6 +32,10 @@ pub enum CallOver<'a, E, F, T, G> {
     InsertGlobal {
         name: &'a str,
         value: Value,
+    },
+    /// Puts this context in the place of the global one, so that any write through `global_context` is such a call.
+    SetGlobal {
+        context: Context,
     },
     /// `add_raw_template`.
     AddRawTemplate {
@@ -89,6 +94,10 @@ pub fn make_call(engine: &mut Tera, call: Call<'_>) -> TeraResult<()>
         CallOver::SetFallbackPrefixes { prefixes } => engine.set_fallback_prefixes(prefixes),
         CallOver::AutoescapeOn { suffixes } => engine.autoescape_on(suffixes),
         CallOver::InsertGlobal { name, value } => insert_global(engine, name, value),
+        CallOver::SetGlobal { context } => {
+            set_global(engine, context);
+            Ok(())
+        }
         CallOver::AddRawTemplate { name, content } => engine.add_raw_template(name, content),
         CallOver::AddRawTemplates { templates } => engine.add_raw_templates(templates),
         CallOver::SetEscapeFn { escape } => {
@@ -106,8 +115,8 @@ pub fn make_call(engine: &mut Tera, call: Call<'_>) -> TeraResult<()>
     }
 }
 
-/// Makes the calls one after another, and goes on after one that was refused. There is one answer a call. An error says that the answers
-/// found no room: then no call was made.
+/// Makes the calls one after another, and goes on after one that was refused. There is one answer a call. An accepted registry they
+/// leave accepted. An error says that the answers found no room: then no call was made.
 pub fn make_calls(
     alloc: Global,
     engine: &mut Tera,
@@ -116,6 +125,8 @@ pub fn make_calls(
     ensures answers { let seen = registry_of ⟦<CallerObjects as Objects>⟧.engine in
         IfOk result (λ answers. Leads ⟦<CallerObjects as Meant>⟧.meanings
         (seen engine.old) calls.entry.items answers.items (seen engine.new)) }
+    ensures accepted { let seen = registry_of ⟦<CallerObjects as Objects>⟧.engine in
+        IsAccepted (seen engine.old) → IsAccepted (seen engine.new) }
     ensures memory { IfErr result Lacks }
     ensures unchanged { let seen = registry_of ⟦<CallerObjects as Objects>⟧.engine in
         OnErr result (seen engine.new ≡ seen engine.old) }
@@ -134,4 +145,11 @@ fn insert_global<O: Objects>(engine: &mut TeraOver<O>, name: &str, value: Value)
         (registry_of O.engine engine.old) (registry_of O.engine engine.new) }
 {
     engine.global_context().insert(name, value)
+}
+
+fn set_global<O: Objects>(engine: &mut TeraOver<O>, context: Context)
+    ensures { registry_of O.engine engine.new
+        ≡ with_context context (registry_of O.engine engine.old) }
+{
+    *engine.global_context() = context;
 }

@@ -4,9 +4,10 @@
 pub mod after;
 pub mod boxed;
 pub mod call;
+pub mod laws;
 pub mod rendering;
 
-pub use after::{Outcome, render_after};
+pub use after::{AppendedOutcome, Outcome, render_after, render_to_after};
 pub use boxed::Meant;
 pub use call::{Call, CallOver, make_call, make_calls};
-pub use rendering::{Rendering, rendered};
+pub use rendering::{EngineRendering, Rendering, rendered, rendered_to};

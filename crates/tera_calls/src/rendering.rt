@@ -1,14 +1,16 @@
 // Calls that render.
 ghost use Rattle.std.specs.Prelude.{string_bytes};
 ghost use Rattle.tera.specs.Prelude.{registry_of};
-ghost use Rattle.tera_calls.specs.Renders.{Answers, Renders};
+ghost use Rattle.tera.specs.Rendering.{AppendsOneOf};
+ghost use Rattle.tera_calls.specs.Renders.{Answered, Answers, Rendered, Renders};
 ghost use Rattle.tera_errors.specs.Prelude.{GivesOneOf};
 
-use tera::{Context, Objects, TeraOver, TeraResult};
+use std::alloc::Global;
+use tera::{Context, Objects, Tera, TeraOver, TeraResult};
 
-/// A call that renders, with its arguments, which are borrowed.
+/// A call of an engine that renders, with its arguments, which are borrowed.
 #[derive(Clone, Copy)]
-pub enum Rendering<'a> {
+pub enum EngineRendering<'a> {
     /// `render`.
     Template {
         name: &'a str,
@@ -36,38 +38,118 @@ pub enum Rendering<'a> {
     },
 }
 
-/// What the call answers: exactly what is meant, and where texts are escaped, no markup but from template text or a value marked
-/// safe.
-pub fn rendered<O: Objects>(engine: &TeraOver<O>, rendering: &Rendering<'_>) -> TeraResult<String>
-    ensures { GivesOneOf string_bytes result
-        (Renders (registry_of O.engine engine.now) rendering.now) }
-{
-    answered(engine, rendering)
+/// Any call that renders.
+#[derive(Clone, Copy)]
+pub enum Rendering<'a> {
+    /// A call of the engine.
+    ByEngine {
+        call: EngineRendering<'a>,
+    },
+    /// `one_off`: a text, by an engine to which nothing else was said.
+    OneOff {
+        input: &'a str,
+        context: &'a Context,
+        autoescape: bool,
+    },
 }
 
-// The same, said as the engine's calls say it.
-fn answered<O: Objects>(engine: &TeraOver<O>, rendering: &Rendering<'_>) -> TeraResult<String>
+/// What the call answers: exactly what is meant, and where texts are escaped, no markup but from template text or a value marked
+/// safe.
+pub fn rendered<O: Objects>(
+    alloc: Global,
+    engine: &TeraOver<O>,
+    rendering: &Rendering<'_>,
+) -> TeraResult<String>
     ensures { GivesOneOf string_bytes result
-        (Answers (registry_of O.engine engine.now) rendering.now) }
+        (Rendered (registry_of O.engine engine.now) rendering.now) }
+{
+    answered(alloc, engine, rendering)
+}
+
+/// Appends what the call answers, by the engine's call whose name ends with `_to`. After an error the vector is as before.
+pub fn rendered_to<O: Objects>(
+    engine: &TeraOver<O>,
+    call: &EngineRendering<'_>,
+    out: &mut Vec<u8>,
+) -> TeraResult<()>
+    ensures { AppendsOneOf result out.old.items out.new.items
+        (Renders (registry_of O.engine engine.now) call.now) }
+{
+    appended(engine, call, out)
+}
+
+// What follows is the same, said as the engine's calls say it.
+
+fn answered<O: Objects>(
+    alloc: Global,
+    engine: &TeraOver<O>,
+    rendering: &Rendering<'_>,
+) -> TeraResult<String>
+    ensures { GivesOneOf string_bytes result
+        (Answered (registry_of O.engine engine.now) rendering.now) }
 {
     match rendering {
-        Rendering::Template { name, context } => engine.render(name, context),
-        Rendering::Text {
+        Rendering::ByEngine { call } => answered_by(engine, call),
+        Rendering::OneOff {
+            input,
+            context,
+            autoescape,
+        } => Tera::one_off(alloc, input, context, *autoescape),
+    }
+}
+
+fn answered_by<O: Objects>(engine: &TeraOver<O>, call: &EngineRendering<'_>) -> TeraResult<String>
+    ensures { GivesOneOf string_bytes result
+        (Answers (registry_of O.engine engine.now) call.now) }
+{
+    match call {
+        EngineRendering::Template { name, context } => engine.render(name, context),
+        EngineRendering::Text {
             input,
             context,
             autoescape,
         } => engine.render_str(input, context, *autoescape),
-        Rendering::Block {
+        EngineRendering::Block {
             name,
             block,
             context,
         } => engine.render_block(name, block, context),
-        Rendering::Component {
+        EngineRendering::Component {
             name,
             args,
             implicits,
             body,
             autoescape,
         } => engine.render_component(name, args, implicits, *body, *autoescape),
+    }
+}
+
+fn appended<O: Objects>(
+    engine: &TeraOver<O>,
+    call: &EngineRendering<'_>,
+    out: &mut Vec<u8>,
+) -> TeraResult<()>
+    ensures { AppendsOneOf result out.old.items out.new.items
+        (Answers (registry_of O.engine engine.now) call.now) }
+{
+    match call {
+        EngineRendering::Template { name, context } => engine.render_to(name, context, out),
+        EngineRendering::Text {
+            input,
+            context,
+            autoescape,
+        } => engine.render_str_to(input, context, *autoescape, out),
+        EngineRendering::Block {
+            name,
+            block,
+            context,
+        } => engine.render_block_to(name, block, context, out),
+        EngineRendering::Component {
+            name,
+            args,
+            implicits,
+            body,
+            autoescape,
+        } => engine.render_component_to(name, args, implicits, *body, *autoescape, out),
     }
 }

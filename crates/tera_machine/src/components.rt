@@ -21,7 +21,7 @@ use tera_errors::Error;
 use tera_objects::Objects;
 use tera_operators::{Operand, fault_at};
 use tera_registry::{Body, Defined, TextTable};
-use tera_values::{Kwargs, Name, Span, TeraResult, Value};
+use tera_values::{Kwargs, Name, Span, TeraResult};
 
 /// How deep components may call one another.
 const MAX_DEPTH: usize = 20;

@@ -1,5 +1,5 @@
 // Templates that are included: how the machine enters their bodies, and how it leaves them.
-ghost use Rattle.std.specs.Prelude.{◌≡◌, ◌≢◌, [], OnOk, IfOk, IfErr};
+ghost use Rattle.std.specs.Prelude.{◌≢◌, [], OnOk, IfOk, IfErr};
 ghost use Rattle.tera_errors.specs.Prelude.{Lacks};
 ghost use Rattle.tera_state.specs.Prelude.{in_include, around_of, variables_of};
 ghost use Rattle.tera_code.specs.Targets.{TemplateNamed};

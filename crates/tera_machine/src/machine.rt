@@ -23,7 +23,7 @@ use crate::wanted::Wanted;
 use std::alloc::Global;
 use std::marker::Brand;
 use std::sync::ledger::Ledger;
-use tera_code::{Chunk, Steps};
+use tera_code::Steps;
 use tera_objects::Objects;
 use tera_registry::{Body, FoundTemplate, TextTable};
 use tera_state::Stack;

@@ -1,5 +1,5 @@
 // What is open and has a number, so that one need not go over it to ask whether a number is among it.
-ghost use Rattle.std.specs.Prelude.{◌≡◌, ◌<◌, ℕ, [], ◌∷◌, length, drop, OnOk, OnErr};
+ghost use Rattle.std.specs.Prelude.{◌≡◌, ◌<◌, ℕ, length, OnOk, OnErr};
 ghost use Rattle.tera_machine.specs.OpenThings.{has_number, nothing, one_more, one_fewer, begun, ended_at, SameMarks};
 
 use std::alloc::{AllocError, Global};

@@ -11,33 +11,35 @@ use Rattle.tera_values.specs.Val.{KeyVal, ValOf}
 use Rattle.tera_values.specs.Named.{Named}
 use Rattle.tera_operators.specs.Literals.{key_val}
 use Rattle.tera_components.specs.Context.{literal_value_in, literal_items_in, literal_pairs_in, is_of_type, fitting, looked_up, parameter_names, others, with_rest, with_body, parameter_value_in, with_parameters_in, component_context_in}
+use Rattle.tera_marks.proofs.Claim.{Claim}
 use Rattle.tera_marks.proofs.Each.{Each, none, more, each-filter}
-use Rattle.tera_marks.proofs.Standing.{Stands, undefineds, nones, bools, ints, texts, raws, arrays, maps, AllStand, no_more, one_more, bearing-each, OptionStands, no_value, value, and_then-stands}
+use Rattle.tera_marks.proofs.Standing.{Stands, undefineds, nones, bools, ints, texts, raws, arrays, maps, AllStand, no_more, one_more, unsafe-each, OptionStands, no_value, value, and_then-stands}
 use Rattle.tera_marks.proofs.Moving.{Pair, entries-stand, inserted-stands}
 use Rattle.tera_marks.proofs.Around.{Binds, option_or-stands, at_name-stands, defined-stands, put-stands, text_keys-stand}
 
--- defaults are made: none of their texts is safe
-mutual
-  literal-stands : (l : Literal) → Stands (literal_value_in marking l) (literal_value_in plain l)
-  literal-stands NothingLiteral = nones
-  literal-stands (BooleanLiteral b) = bools b
-  literal-stands (IntegerLiteral z) = ints z
-  literal-stands (TextLiteral t) = texts false (bearing-each false made t (λ b. tt))
-  literal-stands (ArrayLiteral all) = arrays (literals-stand all)
-  literal-stands (MapLiteral all) = maps (entries-stand (literal_pairs-stand all none))
+module _ {K : Claim} where
+  -- defaults are made: none of their texts is safe
+  mutual
+    literal-stands : (l : Literal) → Stands K (literal_value_in marking l) (literal_value_in plain l)
+    literal-stands NothingLiteral = nones
+    literal-stands (BooleanLiteral b) = bools b
+    literal-stands (IntegerLiteral z) = ints z
+    literal-stands (TextLiteral t) = texts false (unsafe-each made t)
+    literal-stands (ArrayLiteral all) = arrays (literals-stand all)
+    literal-stands (MapLiteral all) = maps (entries-stand (literal_pairs-stand all none))
 
-  literals-stand : (all : Literals) → AllStand (literal_items_in marking all) (literal_items_in plain all)
-  literals-stand NoLiterals = no_more
-  literals-stand (MoreLiterals l rest) = one_more (literal-stands l) (literals-stand rest)
+    literals-stand : (all : Literals) → AllStand K (literal_items_in marking all) (literal_items_in plain all)
+    literals-stand NoLiterals = no_more
+    literals-stand (MoreLiterals l rest) = one_more (literal-stands l) (literals-stand rest)
 
-  literal_pairs-stand : (all : LiteralEntries) {es : List (KeyVal × ValOf Marked)} {fs : List (KeyVal × ValOf ℕ)} → Each Pair es fs → Each Pair (literal_pairs_in marking all es) (literal_pairs_in plain all fs)
-  literal_pairs-stand NoLiteralEntries ss = ss
-  literal_pairs-stand (MoreLiteralEntries k l rest) ss =
-      literal_pairs-stand rest (inserted-stands (key_val k) (literal-stands l) ss)
+    literal_pairs-stand : (all : LiteralEntries) {es : List (KeyVal × ValOf Marked)} {fs : List (KeyVal × ValOf ℕ)} → Each (Pair K) es fs → Each (Pair K) (literal_pairs_in marking all es) (literal_pairs_in plain all fs)
+    literal_pairs-stand NoLiteralEntries ss = ss
+    literal_pairs-stand (MoreLiteralEntries k l rest) ss =
+        literal_pairs-stand rest (inserted-stands (key_val k) (literal-stands l) ss)
 
-default-stands : (o : Option Literal) → OptionStands Stands (option_map (literal_value_in marking) o) (option_map (literal_value_in plain) o)
-default-stands None = no_value
-default-stands (Some l) = value (literal-stands l)
+  default-stands : (o : Option Literal) → OptionStands (Stands K) (option_map (literal_value_in marking) o) (option_map (literal_value_in plain) o)
+  default-stands None = no_value
+  default-stands (Some l) = value (literal-stands l)
 
 -- the type of a value does not tell characters apart
 each_type : (v : ValOf Marked) (w : ValOf ℕ) → is_of_type argument.String v ≡ is_of_type argument.String w → is_of_type argument.Bool v ≡ is_of_type argument.Bool w
@@ -51,55 +53,57 @@ each_type v w s b i n l m argument.Number = n
 each_type v w s b i n l m argument.Array = l
 each_type v w s b i n l m argument.Map = m
 
-type-same : {v : ValOf Marked} {w : ValOf ℕ} → Stands v w → (of_type : ArgumentType) → is_of_type of_type v ≡ is_of_type of_type w
-type-same undefineds = each_type val.undefined val.undefined refl refl refl refl refl refl
-type-same nones = each_type val.none val.none refl refl refl refl refl refl
-type-same (bools b) = each_type (val.bool b) (val.bool b) refl refl refl refl refl refl
-type-same (ints z) = each_type (val.int z) (val.int z) refl refl refl refl refl refl
-type-same (texts safe {t = t} {u = u} rs) = each_type (val.text t safe) (val.text u safe) refl refl refl refl refl refl
-type-same (raws t) = each_type (val.bytes t) (val.bytes t) refl refl refl refl refl refl
-type-same (arrays {vs = vs} {ws = ws} ss) = each_type (val.array vs) (val.array ws) refl refl refl refl refl refl
-type-same (maps {es = es} {fs = fs} ss) = each_type (val.map es) (val.map fs) refl refl refl refl refl refl
+module _ {K : Claim} where
+  type-same : {v : ValOf Marked} {w : ValOf ℕ} → Stands K v w → (of_type : ArgumentType) → is_of_type of_type v ≡ is_of_type of_type w
+  type-same undefineds = each_type val.undefined val.undefined refl refl refl refl refl refl
+  type-same nones = each_type val.none val.none refl refl refl refl refl refl
+  type-same (bools b) = each_type (val.bool b) (val.bool b) refl refl refl refl refl refl
+  type-same (ints z) = each_type (val.int z) (val.int z) refl refl refl refl refl refl
+  type-same (texts safe {t = t} {u = u} rs) = each_type (val.text t safe) (val.text u safe) refl refl refl refl refl refl
+  type-same (raws t) = each_type (val.bytes t) (val.bytes t) refl refl refl refl refl refl
+  type-same (arrays {vs = vs} {ws = ws} ss) = each_type (val.array vs) (val.array ws) refl refl refl refl refl refl
+  type-same (maps {es = es} {fs = fs} ss) = each_type (val.map es) (val.map fs) refl refl refl refl refl refl
 
-fitting-stands : (o : Option ArgumentType) {v : ValOf Marked} {w : ValOf ℕ} → Stands v w → OptionStands Stands (fitting o v) (fitting o w)
-fitting-stands None s = value s
-fitting-stands (Some of_type) {v} {w} s = rw (type-same s of_type) (go (is_of_type of_type w))
-  where
-    go : (fits : Bool) → OptionStands Stands (if fits then Some v else None) (if fits then Some w else None)
-    go true = value s
-    go false = no_value
+  fitting-stands : (o : Option ArgumentType) {v : ValOf Marked} {w : ValOf ℕ} → Stands K v w → OptionStands (Stands K) (fitting o v) (fitting o w)
+  fitting-stands None s = value s
+  fitting-stands (Some of_type) {v} {w} s = rw (type-same s of_type) (go (is_of_type of_type w))
+    where
+      go : (fits : Bool) → OptionStands (Stands K) (if fits then Some v else None) (if fits then Some w else None)
+      go true = value s
+      go false = no_value
 
 -- names are looked up on both sides, and what is found stands
-abbrev pub LooksStand : (Name → ValOf Marked) → (Name → ValOf ℕ) → Type 0
-LooksStand look other = (name : Name) → Stands (look name) (other name)
+abbrev pub LooksStand : Claim → (Name → ValOf Marked) → (Name → ValOf ℕ) → Type 0
+LooksStand K look other = (name : Name) → Stands K (look name) (other name)
 
-looked_up-stands : {look : Name → ValOf Marked} {other : Name → ValOf ℕ} → LooksStand look other → (is_implicit : Bool) (name : Name) → OptionStands Stands (looked_up look is_implicit name) (looked_up other is_implicit name)
-looked_up-stands h true name = defined-stands (value (h name))
-looked_up-stands h false name = no_value
+module _ {K : Claim} where
+  looked_up-stands : {look : Name → ValOf Marked} {other : Name → ValOf ℕ} → LooksStand K look other → (is_implicit : Bool) (name : Name) → OptionStands (Stands K) (looked_up look is_implicit name) (looked_up other is_implicit name)
+  looked_up-stands h true name = defined-stands (value (h name))
+  looked_up-stands h false name = no_value
 
-with_rest-stands : (rest : Option Name) {over : List (Name × ValOf Marked)} {left : List (Name × ValOf ℕ)} → Each Binds over left → {cs : Named (ValOf Marked)} {ds : Named (ValOf ℕ)} → Each Binds cs ds → OptionStands (Each Binds) (with_rest rest over cs) (with_rest rest left ds)
-with_rest-stands (Some rest) os ks = value (put-stands rest (maps (entries-stand (text_keys-stand os))) ks)
-with_rest-stands None none ks = value ks
-with_rest-stands None (more o os) ks = no_value
+  with_rest-stands : (rest : Option Name) {over : List (Name × ValOf Marked)} {left : List (Name × ValOf ℕ)} → Each (Binds K) over left → {cs : Named (ValOf Marked)} {ds : Named (ValOf ℕ)} → Each (Binds K) cs ds → OptionStands (Each (Binds K)) (with_rest rest over cs) (with_rest rest left ds)
+  with_rest-stands (Some rest) os ks = value (put-stands rest (maps (entries-stand (text_keys-stand os))) ks)
+  with_rest-stands None none ks = value ks
+  with_rest-stands None (more o os) ks = no_value
 
-with_body-stands : {body : Option (ValOf Marked)} {other : Option (ValOf ℕ)} → OptionStands Stands body other → {cs : Named (ValOf Marked)} {ds : Named (ValOf ℕ)} → Each Binds cs ds → Each Binds (with_body body cs) (with_body other ds)
-with_body-stands no_value ks = ks
-with_body-stands (value s) ks = put-stands (codes "body") s ks
+  with_body-stands : {body : Option (ValOf Marked)} {other : Option (ValOf ℕ)} → OptionStands (Stands K) body other → {cs : Named (ValOf Marked)} {ds : Named (ValOf ℕ)} → Each (Binds K) cs ds → Each (Binds K) (with_body body cs) (with_body other ds)
+  with_body-stands no_value ks = ks
+  with_body-stands (value s) ks = put-stands (codes "body") s ks
 
-others-stand : (s : Signature) {given : List (Name × ValOf Marked)} {also : List (Name × ValOf ℕ)} → Each Binds given also → Each Binds (others s given) (others s also)
-others-stand s ks = each-filter _ _ (λ a b k. ap (λ n. not (is_among n (parameter_names s))) k.0) ks
+  others-stand : (s : Signature) {given : List (Name × ValOf Marked)} {also : List (Name × ValOf ℕ)} → Each (Binds K) given also → Each (Binds K) (others s given) (others s also)
+  others-stand s ks = each-filter _ _ (λ a b k. ap (λ n. not (is_among n (parameter_names s))) k.0) ks
 
-module _ {look : Name → ValOf Marked} {other : Name → ValOf ℕ} (looks : LooksStand look other) {given : List (Name × ValOf Marked)} {also : List (Name × ValOf ℕ)} (ks : Each Binds given also) where
-  parameter-stands : (p : Parameter) → OptionStands Stands (parameter_value_in marking look given p) (parameter_value_in plain other also p)
-  parameter-stands p =
-      let found = option_or-stands (at_name-stands p.name ks) (option_or-stands (looked_up-stands looks p.is_implicit p.name) (default-stands p.default)) in
-      and_then-stands found (λ v w s. fitting-stands p.of_type s)
+  module _ {look : Name → ValOf Marked} {other : Name → ValOf ℕ} (looks : LooksStand K look other) {given : List (Name × ValOf Marked)} {also : List (Name × ValOf ℕ)} (ks : Each (Binds K) given also) where
+    parameter-stands : (p : Parameter) → OptionStands (Stands K) (parameter_value_in marking look given p) (parameter_value_in plain other also p)
+    parameter-stands p =
+        let found = option_or-stands (at_name-stands p.name ks) (option_or-stands (looked_up-stands looks p.is_implicit p.name) (default-stands p.default)) in
+        and_then-stands found (λ v w s. fitting-stands p.of_type s)
 
-  with_parameters-stand : (ps : List Parameter) {cs : Named (ValOf Marked)} {ds : Named (ValOf ℕ)} → Each Binds cs ds → OptionStands (Each Binds) (with_parameters_in marking look given ps cs) (with_parameters_in plain other also ps ds)
-  with_parameters-stand [] cs = value cs
-  with_parameters-stand (p ∷ ps) cs =
-      and_then-stands (parameter-stands p) (λ v w s. with_parameters-stand ps (put-stands p.name s cs))
+    with_parameters-stand : (ps : List Parameter) {cs : Named (ValOf Marked)} {ds : Named (ValOf ℕ)} → Each (Binds K) cs ds → OptionStands (Each (Binds K)) (with_parameters_in marking look given ps cs) (with_parameters_in plain other also ps ds)
+    with_parameters-stand [] cs = value cs
+    with_parameters-stand (p ∷ ps) cs =
+        and_then-stands (parameter-stands p) (λ v w s. with_parameters-stand ps (put-stands p.name s cs))
 
-  pub context-stands : (s : Signature) {body : Option (ValOf Marked)} {text : Option (ValOf ℕ)} → OptionStands Stands body text → OptionStands (Each Binds) (component_context_in marking s given body look) (component_context_in plain s also text other)
-  context-stands s b =
-      and_then-stands (with_parameters-stand s.parameters (with_body-stands b none)) (λ cs ds k. with_rest-stands s.rest (others-stand s ks) k)
+    pub context-stands : (s : Signature) {body : Option (ValOf Marked)} {text : Option (ValOf ℕ)} → OptionStands (Stands K) body text → OptionStands (Each (Binds K)) (component_context_in marking s given body look) (component_context_in plain s also text other)
+    context-stands s b =
+        and_then-stands (with_parameters-stand s.parameters (with_body-stands b none)) (λ cs ds k. with_rest-stands s.rest (others-stand s ks) k)

@@ -10,6 +10,7 @@ use Rattle.tera_built_ins.specs.Arguments.{GivenOf}
 use Rattle.tera_built_ins.specs.Escaping.{Escaping}
 use Rattle.tera_built_ins.specs.Parts.{part, given_safe}
 use Rattle.tera_built_ins.specs.Indent as of
+use Rattle.tera_marks.proofs.Claim.{Claim}
 use Rattle.tera_marks.proofs.Each.{Each, none, more, one_of, each-append, each-map, each-repeat}
 use Rattle.tera_marks.proofs.Standing.{Bears, Stands, texts, seen-is, harmless-made, OptionStands, no_value, value, ResultStands, answers, refuses}
 use Rattle.tera_marks.proofs.Given.{NamedStand, GivenStands, given_texts, after-stands, as_text-stands, as_bool-stands, as_natural-stands, optional-stands, or_default-stands}
@@ -26,20 +27,17 @@ module _ {C : Type 0} {R : C → ℕ → Type 0} where
   moved_lines-each first blank s (more r rs) =
       more (one_of (Each R) first (each-append s r) r) (each-map _ _ (λ t u r. later_line-each blank s r) rs)
 
-indented-each : (safe first blank : Bool) {feed padding t : List Marked} {other by u : List ℕ} → Each (Bears safe) feed other → Each (Bears safe) padding by → Each (Bears safe) t u → Each (Bears safe) (of.indented marking.code feed padding first blank t) (of.indented plain.code other by first blank u)
-indented-each safe first blank f s rs =
-    rw (ends_line-same (decodes safe) rs)
-    (each-append (each-joined (decodes safe) f (moved_lines-each first blank s (each-lines (decodes safe) rs))) (one_of (Each (Bears safe)) _ f none))
+module _ {K : Claim} where
+  indented-each : (safe first blank : Bool) {feed padding t : List Marked} {other by u : List ℕ} → Each (Bears K safe) feed other → Each (Bears K safe) padding by → Each (Bears K safe) t u → Each (Bears K safe) (of.indented marking.code feed padding first blank t) (of.indented plain.code other by first blank u)
+  indented-each safe first blank f s rs =
+      rw (ends_line-same (decodes safe) rs)
+      (each-append (each-joined (decodes safe) f (moved_lines-each first blank s (each-lines (decodes safe) rs))) (one_of (Each (Bears K safe)) _ f none))
 
-character-same : {g : Option (GivenOf Marked)} {h : Option (GivenOf ℕ)} → OptionStands GivenStands g h → of.is_character marking g ≡ of.is_character plain h
-character-same no_value = refl
-character-same (value (given_texts safe rs)) = rw (seen-is safe rs) refl
+  character-same : {g : Option (GivenOf Marked)} {h : Option (GivenOf ℕ)} → OptionStands (GivenStands K) g h → of.is_character marking g ≡ of.is_character plain h
+  character-same no_value = refl
+  character-same (value (given_texts safe rs)) = rw (seen-is safe rs) refl
 
-module _ (view : Escaping) (by_html : view.escape ≡ escape_html) where
-  unit-each : (safe : Bool) {g : Option (GivenOf Marked)} {h : Option (GivenOf ℕ)} → OptionStands GivenStands g h → Each (Bears safe) (of.unit marking view safe g) (of.unit plain view safe h)
-  unit-each safe no_value = harmless-made safe (codes " ") (refl, tt)
-  unit-each safe (value s) = part-each view by_html safe s
-
+module _ (view : Escaping) where
   -- the answer, once all is read
   abbrev answer : {C : Type 0} → Alphabet C → GivenOf C → ℕ → Option (GivenOf C) → Bool → Bool → Result (ValOf C) Fault
   answer alphabet g width indentation first blank =
@@ -50,16 +48,21 @@ module _ (view : Escaping) (by_html : view.escape ≡ escape_html) where
       then Ok (text (of.indented alphabet.code feed padding first blank (part alphabet view safe g)) safe)
       else Err message
 
-  answer-stands : (width : ℕ) (first blank : Bool) {g : GivenOf Marked} {h : GivenOf ℕ} → GivenStands g h → {indentation : Option (GivenOf Marked)} {other : Option (GivenOf ℕ)} → OptionStands GivenStands indentation other
-      → ResultStands Stands (answer marking g width indentation first blank) (answer plain h width other first blank)
+module _ {K : Claim} (view : Escaping) (by_html : view.escape ≡ escape_html) where
+  unit-each : (safe : Bool) {g : Option (GivenOf Marked)} {h : Option (GivenOf ℕ)} → OptionStands (GivenStands K) g h → Each (Bears K safe) (of.unit marking view safe g) (of.unit plain view safe h)
+  unit-each safe no_value = harmless-made safe (codes " ") (refl, tt)
+  unit-each safe (value s) = part-each view by_html safe s
+
+  answer-stands : (width : ℕ) (first blank : Bool) {g : GivenOf Marked} {h : GivenOf ℕ} → GivenStands K g h → {indentation : Option (GivenOf Marked)} {other : Option (GivenOf ℕ)} → OptionStands (GivenStands K) indentation other
+      → ResultStands (Stands K) (answer view marking g width indentation first blank) (answer view plain h width other first blank)
   answer-stands width first blank (given_texts s rs) {other = other} k =
       let safe = view.autoescape && (s || given_safe other) in
       rw (character-same k) (rw (given_safe-same k)
-      (one_of (ResultStands Stands) (of.is_character plain other)
+      (one_of (ResultStands (Stands K)) (of.is_character plain other)
       (answers (texts safe (indented-each safe first blank (harmless-made safe (codes "\n") (refl, tt)) (each-repeat (min width 1000) (unit-each safe k)) (part-each view by_html safe (given_texts s rs)))))
       (refuses message)))
 
-  pub indent-stands : {v : ValOf Marked} {w : ValOf ℕ} → Stands v w → {given : Named (ValOf Marked)} {others : Named (ValOf ℕ)} → NamedStand given others → ResultStands Stands (of.indent_of marking view v given) (of.indent_of plain view w others)
+  pub indent-stands : {v : ValOf Marked} {w : ValOf ℕ} → Stands K v w → {given : Named (ValOf Marked)} {others : Named (ValOf ℕ)} → NamedStand K given others → ResultStands (Stands K) (of.indent_of marking view v given) (of.indent_of plain view w others)
   indent-stands s ns =
       after-stands (as_text-stands s) (λ g h k.
       after-stands (or_default-stands (λ v w. as_natural-stands (2 ^ 64)) refl (codes "width") ns) (λ width n e.

@@ -4,12 +4,14 @@ use Rattle.tera_errors.specs.Site.{Text}
 use Rattle.tera_values.specs.Alphabet.{Marked, plain, marking, made}
 use Rattle.tera_values.specs.Val.{text}
 use Rattle.tera_built_ins.specs.Arguments.{GivenOf}
-use Rattle.tera_marks.proofs.Standing.{Stands, texts, seen-is, bearing-each}
+use Rattle.tera_marks.proofs.Claim.{Claim}
+use Rattle.tera_marks.proofs.Standing.{Stands, texts, seen-is, unsafe-each}
 use Rattle.tera_marks.proofs.Given.{GivenStands, given_texts}
 
-pub made-stands : (t : Text) → Stands (text (marking.spelled made t) false) (text (plain.spelled made t) false)
-made-stands t = texts false (bearing-each false made t (λ b. tt))
+module _ {K : Claim} where
+  pub made-stands : (t : Text) → Stands K (text (marking.spelled made t) false) (text (plain.spelled made t) false)
+  made-stands t = texts false (unsafe-each made t)
 
--- what is made of a text that is given
-pub made_from-stands : (f : Text → Text) {g : GivenOf Marked} {h : GivenOf ℕ} → GivenStands g h → Stands (text (marking.spelled made (f (marking.seen g.text))) false) (text (plain.spelled made (f (plain.seen h.text))) false)
-made_from-stands f (given_texts safe {u = u} rs) = rw (seen-is safe rs) (made-stands (f u))
+  -- what is made of a text that is given
+  pub made_from-stands : (f : Text → Text) {g : GivenOf Marked} {h : GivenOf ℕ} → GivenStands K g h → Stands K (text (marking.spelled made (f (marking.seen g.text))) false) (text (plain.spelled made (f (plain.seen h.text))) false)
+  made_from-stands f (given_texts safe {u = u} rs) = rw (seen-is safe rs) (made-stands (f u))

@@ -8,12 +8,13 @@ use Rattle.tera_built_ins.specs.Arguments.{GivenOf}
 use Rattle.tera_built_ins.specs.Escaping.{Escaping}
 use Rattle.tera_built_ins.specs.Parts.{part}
 use Rattle.tera_built_ins.specs.Replace.{replaced, replace_of}
+use Rattle.tera_marks.proofs.Claim.{Claim}
 use Rattle.tera_marks.proofs.Standing.{Stands, texts, seen-is, ResultStands, answers}
 use Rattle.tera_marks.proofs.Given.{NamedStand, GivenStands, given_texts, after-stands, as_text-stands, needed-stands}
 use Rattle.tera_marks.proofs.Pieces.{each-joined, each-pieces}
 use Rattle.tera_marks.proofs.Parts.{decodes, part-each}
 
-module _ (view : Escaping) (by_html : view.escape ≡ escape_html) where
+module _ (view : Escaping) where
   -- the answer, once all is read
   abbrev answer : {C : Type 0} → Alphabet C → GivenOf C → GivenOf C → GivenOf C → ValOf C
   answer alphabet g from to =
@@ -21,13 +22,14 @@ module _ (view : Escaping) (by_html : view.escape ≡ escape_html) where
       let put = part alphabet view safe in
       text (replaced alphabet.code (alphabet.seen from.text) (put to) (put g)) safe
 
-  answer-stands : {g from to : GivenOf Marked} {h other by : GivenOf ℕ} → GivenStands g h → GivenStands from other → GivenStands to by → Stands (answer marking g from to) (answer plain h other by)
+module _ {K : Claim} (view : Escaping) (by_html : view.escape ≡ escape_html) where
+  answer-stands : {g from to : GivenOf Marked} {h other by : GivenOf ℕ} → GivenStands K g h → GivenStands K from other → GivenStands K to by → Stands K (answer view marking g from to) (answer view plain h other by)
   answer-stands (given_texts s rs) (given_texts q {u = pattern} ps) (given_texts r ts) =
       let safe = view.autoescape && (s || r) in
       rw (seen-is q ps)
       (texts safe (each-joined (decodes safe) (part-each view by_html safe (given_texts r ts)) (each-pieces (decodes safe) pattern (part-each view by_html safe (given_texts s rs)))))
 
-  pub replace-stands : {v : ValOf Marked} {w : ValOf ℕ} → Stands v w → {given : Named (ValOf Marked)} {others : Named (ValOf ℕ)} → NamedStand given others → ResultStands Stands (replace_of marking view v given) (replace_of plain view w others)
+  pub replace-stands : {v : ValOf Marked} {w : ValOf ℕ} → Stands K v w → {given : Named (ValOf Marked)} {others : Named (ValOf ℕ)} → NamedStand K given others → ResultStands (Stands K) (replace_of marking view v given) (replace_of plain view w others)
   replace-stands s ns =
       after-stands (as_text-stands s) (λ g h k.
       after-stands (needed-stands (λ v w. as_text-stands) (codes "from") ns) (λ from other l.

@@ -6,19 +6,21 @@ use Rattle.tera_values.specs.Access.{count}
 use Rattle.tera_values.specs.Alphabet.{Marked, plain, marking}
 use Rattle.tera_values.specs.Val.{ValOf}
 use Rattle.tera_built_ins.specs.Sizes.{number_or_refused, length_of, reverse_of}
+use Rattle.tera_marks.proofs.Claim.{Claim}
 use Rattle.tera_marks.proofs.Each.{each-reverse}
 use Rattle.tera_marks.proofs.Standing.{Stands, ints, texts, arrays, seen-is, bare-is, ResultStands, answers, refuses}
 use Rattle.tera_marks.proofs.Moving.{each-stands, all-stand}
 use Rattle.tera_marks.proofs.Made.{made-stands}
 
-number-stands : (n : Option ℕ) → ResultStands Stands (number_or_refused n) (number_or_refused n)
-number-stands (Some n) = answers (ints (pos n))
-number-stands None = refuses message
+module _ {K : Claim} where
+  number-stands : (n : Option ℕ) → ResultStands (Stands K) (number_or_refused n) (number_or_refused n)
+  number-stands (Some n) = answers (ints (pos n))
+  number-stands None = refuses message
 
-pub length-stands : {v : ValOf Marked} {w : ValOf ℕ} → Stands v w → ResultStands Stands (length_of marking v) (length_of plain w)
-length-stands {w = w} s = rw (bare-is s) (number-stands (count w))
+  pub length-stands : {v : ValOf Marked} {w : ValOf ℕ} → Stands K v w → ResultStands (Stands K) (length_of marking v) (length_of plain w)
+  length-stands {w = w} s = rw (bare-is s) (number-stands (count w))
 
-pub reverse-stands : {v : ValOf Marked} {w : ValOf ℕ} → Stands v w → ResultStands Stands (reverse_of marking v) (reverse_of plain w)
-reverse-stands (texts safe {u = u} rs) = rw (seen-is safe rs) (answers (made-stands (encode_utf8_all (reverse (chars u)))))
-reverse-stands (arrays ss) = answers (arrays (all-stand (each-reverse (each-stands ss))))
-reverse-stands _ = refuses message
+  pub reverse-stands : {v : ValOf Marked} {w : ValOf ℕ} → Stands K v w → ResultStands (Stands K) (reverse_of marking v) (reverse_of plain w)
+  reverse-stands (texts safe {u = u} rs) = rw (seen-is safe rs) (answers (made-stands (encode_utf8_all (reverse (chars u)))))
+  reverse-stands (arrays ss) = answers (arrays (all-stand (each-reverse (each-stands ss))))
+  reverse-stands _ = refuses message

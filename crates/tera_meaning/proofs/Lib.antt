@@ -1,1 +1,4 @@
 pub mod Levels
+pub mod Faultless
+pub mod Bodies
+pub mod Rounds

@@ -8,7 +8,10 @@ pub mod Components
 pub mod Known
 pub mod Accepted
 pub mod Adding
+pub mod Laws
+pub mod Circles
 pub mod Whole
+pub mod BodyLaws
 pub mod Rendering
 pub mod Variables
 pub mod Prelude

@@ -3,3 +3,4 @@ pub mod Each
 pub mod Taken
 pub mod Called
 pub mod Registered
+pub mod Standing

@@ -2,7 +2,7 @@
 use Rattle.std.specs.Prelude.{Bool, true, false, map, Option, Some, None, Result, Ok, Err}
 use Rattle.tera_errors.specs.Site.{Name}
 use Rattle.tera_errors.specs.Fault.{Fault, message}
-use Rattle.tera_values.specs.Alphabet.{Alphabet}
+use Rattle.tera_values.specs.Alphabet.{Alphabet, plain}
 use Rattle.tera_values.specs.Named.{Named}
 use Rattle.tera_values.specs.Val.{Val, ValOf}
 use Rattle.tera_values.specs.Access.{marked}
@@ -16,11 +16,16 @@ use Rattle.tera_state.specs.Scope.{AroundOf, VariablesOf, look}
 use Rattle.tera_state.specs.View.{View, escaping_in}
 use Rattle.tera_objects.specs.Engine.{Engine, OwnFilter, OwnTest, OwnFunction, Callee, own, built_in, filter_at, test_at, function_at, built_in_filters}
 
--- what an object answers, whose texts are marked safe or not
+-- what an object answers, whose text is marked safe or left as it is
+abbrev pub answer_in : {C : Type 0} → Alphabet C → Bool → Result (ValOf C) Fault
+    → Result (ValOf C) Fault
+answer_in alphabet true (Ok v) = Ok (marked (alphabet.vouched v))
+answer_in alphabet true (Err fault) = Err fault
+answer_in alphabet false answer = answer
+
+-- of bytes: this is what runs
 abbrev pub answer_of : Bool → Result Val Fault → Result Val Fault
-answer_of true (Ok v) = Ok (marked v)
-answer_of true (Err fault) = Err fault
-answer_of false answer = answer
+answer_of = answer_in plain
 
 module _ {C : Type 0} (alphabet : Alphabet C) where
   -- what an object sees where these are the variables, with this around them: values without marks
@@ -38,13 +43,14 @@ module _ {C : Type 0} (alphabet : Alphabet C) where
   all_bare given = map (λ g. (g.0, alphabet.bare g.1)) given
 
   module _ (view : View) where
-    -- A built-in works on characters. An object is handed values without marks, and what it answers
-    -- comes from outside.
+    -- A built-in works on characters. An object is handed values without marks. What it answers comes
+    -- from outside, where its safe texts are marked safe; then its own word counts that all are.
     abbrev pub filter_called : Option (Callee OwnFilter BuiltInFilter) → ValOf C → Named (ValOf C)
         → Result (ValOf C) Fault
     filter_called None v given = Err message
     filter_called (Some (own o)) v given =
-        alphabet.answers (answer_of o.safe (o.meaning (alphabet.bare v) (all_bare given) view))
+        answer_in alphabet o.safe
+        (alphabet.answers (o.meaning (alphabet.bare v) (all_bare given) view))
     filter_called (Some (built_in b)) v given = filter_of alphabet (escaping_in view) b v given
 
     abbrev pub test_called : Option (Callee OwnTest BuiltInTest) → ValOf C → Named (ValOf C)
@@ -57,7 +63,7 @@ module _ {C : Type 0} (alphabet : Alphabet C) where
         → Result (ValOf C) Fault
     function_called None given = Err message
     function_called (Some (own o)) given =
-        alphabet.answers (answer_of o.safe (o.meaning (all_bare given) view))
+        answer_in alphabet o.safe (alphabet.answers (o.meaning (all_bare given) view))
     function_called (Some (built_in b)) given = function_of alphabet b given
 
   -- by names, and a fault where the name stands for nothing

@@ -5,4 +5,5 @@ pub mod Table
 pub mod Taken
 pub mod Kept
 pub mod Moving
+pub mod Laws
 pub mod Prelude

@@ -5,6 +5,7 @@ mod boxes;
 pub mod call;
 mod calls;
 pub mod filters;
+pub mod laws;
 mod marked;
 pub mod objects;
 pub mod over;

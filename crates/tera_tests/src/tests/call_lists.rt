@@ -3,7 +3,9 @@ use super::other_delimiters::delimiters;
 use crate::own::{Holding, saying};
 use std::alloc::Global;
 use tera::{Context, Tera, TeraResult, Value};
-use tera_calls::{Call, CallOver, Outcome, Rendering, render_after};
+use tera_calls::{
+    Call, CallOver, EngineRendering, Outcome, Rendering, render_after, render_to_after,
+};
 
 fn with_prefixes<'a>(prefixes: &'a [&'a str]) -> Call<'a> {
     CallOver::SetFallbackPrefixes { prefixes }
@@ -48,28 +50,38 @@ fn with_those_of_another<'a>(alloc: Global) -> TeraResult<Call<'a>> {
     Ok(CallOver::RegisterFrom { other })
 }
 
-fn of_template<'a>(name: &'a str, context: &'a Context) -> Rendering<'a> {
-    Rendering::Template { name, context }
+fn with_another_global(alloc: Global, name: &str, value: Value) -> TeraResult<Call<'static>> {
+    let mut context = Context::new(alloc);
+    context.insert(name, value)?;
+    Ok(CallOver::SetGlobal { context })
 }
 
-fn of_block<'a>(name: &'a str, block: &'a str, context: &'a Context) -> Rendering<'a> {
-    Rendering::Block {
+fn of_template<'a>(name: &'a str, context: &'a Context) -> EngineRendering<'a> {
+    EngineRendering::Template { name, context }
+}
+
+fn of_block<'a>(name: &'a str, block: &'a str, context: &'a Context) -> EngineRendering<'a> {
+    EngineRendering::Block {
         name,
         block,
         context,
     }
 }
 
-fn of_text<'a>(input: &'a str, context: &'a Context) -> Rendering<'a> {
-    Rendering::Text {
+fn of_text<'a>(input: &'a str, context: &'a Context) -> EngineRendering<'a> {
+    EngineRendering::Text {
         input,
         context,
         autoescape: false,
     }
 }
 
-fn of_component<'a>(name: &'a str, args: &'a Context, implicits: &'a Context) -> Rendering<'a> {
-    Rendering::Component {
+fn of_component<'a>(
+    name: &'a str,
+    args: &'a Context,
+    implicits: &'a Context,
+) -> EngineRendering<'a> {
+    EngineRendering::Component {
         name,
         args,
         implicits,
@@ -109,7 +121,16 @@ fn add_objects(alloc: Global, calls: &mut Vec<Call<'_>>) -> TeraResult<()> {
     Ok(())
 }
 
-fn is_rendered(alloc: Global, rendering: &Rendering<'_>, want: &str) -> TeraResult<bool> {
+fn of_one_off<'a>(input: &'a str, context: &'a Context) -> Rendering<'a> {
+    Rendering::OneOff {
+        input,
+        context,
+        autoescape: false,
+    }
+}
+
+// The thirteen calls.
+fn all_calls<'a>(alloc: Global) -> TeraResult<Vec<Call<'a>>> {
     let mut calls = Vec::new(alloc);
     calls.push(CallOver::SetDelimiters {
         delimiters: delimiters(alloc, ("[%", "%]"), ("[[", "]]"), ("[#", "#]"))?,
@@ -117,9 +138,34 @@ fn is_rendered(alloc: Global, rendering: &Rendering<'_>, want: &str) -> TeraResu
     calls.push(with_global("name", Value::string(alloc, "<")?))?;
     add_templates(&mut calls)?;
     add_objects(alloc, &mut calls)?;
+    Ok(calls)
+}
+
+// Whether the rendering gave this text, and was appended, behind the thirteen calls.
+fn is_rendered(alloc: Global, call: EngineRendering<'_>, want: &str) -> TeraResult<bool> {
     let mut engine = Tera::new(alloc)?;
-    let outcome = render_after(alloc, &mut engine, calls, rendering)?;
-    Ok(gave(&outcome, want))
+    let rendering = Rendering::ByEngine { call };
+    let outcome = render_after(alloc, &mut engine, all_calls(alloc)?, &rendering)?;
+    let mut out = Vec::new(alloc);
+    out.extend_from_slice(b"> ")?;
+    let more = render_to_after(alloc, &mut engine, Vec::new(alloc), &call, &mut out)?;
+    let behind = format!(in alloc; "> {want}")?;
+    let is_appended = more.appended.is_ok() && out.as_slice() == behind.as_bytes();
+    Ok(gave(&outcome, want) && is_appended)
+}
+
+// A one-off text reads nothing of the engine; the global context that was put in the place of another one is read.
+fn contexts_are_read(alloc: Global) -> TeraResult<bool> {
+    let none = Context::new(alloc);
+    let mut engine = Tera::new(alloc)?;
+    let one_off = of_one_off("{{ 1 }}", &none);
+    let outcome = render_after(alloc, &mut engine, all_calls(alloc)?, &one_off)?;
+    let mut calls = Vec::new(alloc);
+    calls.push(with_another_global(alloc, "other", Value::string(alloc, "o")?)?)?;
+    let call = of_text("[[ other ]][[ name is defined ]]", &none);
+    let rendering = Rendering::ByEngine { call };
+    let again = render_after(alloc, &mut engine, calls, &rendering)?;
+    Ok(gave(&outcome, "1") && matches!(&again.text, Ok(text) if text.as_str() == "ofalse"))
 }
 
 fn templates_are_rendered(alloc: Global) -> TeraResult<bool> {
@@ -127,25 +173,31 @@ fn templates_are_rendered(alloc: Global) -> TeraResult<bool> {
     let mut args = Context::new(alloc);
     args.insert("x", Value::string(alloc, ">")?)?;
     Ok(
-        is_rendered(alloc, &of_template("a.page", &none), "<a>&lt;")?
-            && is_rendered(alloc, &of_block("a.page", "b", &none), "&lt;")?
-            && is_rendered(alloc, &of_text("[[ name ]]", &none), "<")?
-            && is_rendered(alloc, &of_component("c", &args, &none), "(&gt;)")?,
+        is_rendered(alloc, of_template("a.page", &none), "<a>&lt;")?
+            && is_rendered(alloc, of_block("a.page", "b", &none), "&lt;")?
+            && is_rendered(alloc, of_text("[[ name ]]", &none), "<")?
+            && is_rendered(alloc, of_component("c", &args, &none), "(&gt;)")?,
     )
 }
 
 fn objects_are_called(alloc: Global) -> TeraResult<bool> {
     let none = Context::new(alloc);
     Ok(
-        is_rendered(alloc, &of_text("[[ 1 | said ]][[ said() ]]", &none), "f<g<")?
-            && is_rendered(alloc, &of_text("[[ 1 is held ]]", &none), "true")?
-            && is_rendered(alloc, &of_text("[[ 1 | more ]]", &none), "more")?,
+        is_rendered(alloc, of_text("[[ 1 | said ]][[ said() ]]", &none), "f<g<")?
+            && is_rendered(alloc, of_text("[[ 1 is held ]]", &none), "true")?
+            && is_rendered(alloc, of_text("[[ 1 | more ]]", &none), "more")?,
     )
 }
 
 #[test]
 fn lists_of_calls(rt: HostRuntime) {
     let is_right = matches!(templates_are_rendered(rt.alloc()), Ok(true));
+    assert!(rt; is_right);
+}
+
+#[test]
+fn lists_of_calls_with_other_contexts(rt: HostRuntime) {
+    let is_right = matches!(contexts_are_read(rt.alloc()), Ok(true));
     assert!(rt; is_right);
 }
 

@@ -11,6 +11,7 @@ fn shows_first(alloc: Global, count: usize, behind: &str, want: &str) -> bool {
         count,
         before: "{% extends '",
         behind,
+        times: 1,
         last: "{% block b %}x{% endblock %}",
     };
     shows_one(alloc, lineage, "1", want)

@@ -15,19 +15,28 @@ pub struct Lineage<'a> {
     pub before: &'a str,
     /// What each but the last has behind the name of the next one.
     pub behind: &'a str,
+    /// How often each but the last has the next one's name, with this around it.
+    pub times: usize,
     pub last: &'a str,
 }
 
-fn put_line(lines: &mut String, number: usize, before: &str, behind: &str) -> bool {
-    let next = number.saturating_add(1);
-    writeln!(lines, "{number} {before}{next}{behind}").is_ok()
+impl<'a> Lineage<'a> {
+    fn put_line(self, lines: &mut String, number: usize) -> bool {
+        let Lineage { before, behind, .. } = self;
+        let next = number.saturating_add(1);
+        let mut is_put = write!(lines, "{number} ").is_ok();
+        for _ in 0..self.times {
+            is_put = is_put && write!(lines, "{before}{next}{behind}").is_ok();
+        }
+        is_put && writeln!(lines).is_ok()
+    }
 }
 
 /// A line `NUMBER TEXT` for each of the templates.
 fn lines_of(alloc: Global, lineage: Lineage<'_>) -> Option<String> {
     let mut lines = String::new(alloc);
     for number in 1..lineage.count {
-        if !put_line(&mut lines, number, lineage.before, lineage.behind) {
+        if !lineage.put_line(&mut lines, number) {
             return None;
         }
     }
@@ -73,6 +82,7 @@ fn leads_on(alloc: Global, count: usize, before: &str, name: &str) -> bool {
         count,
         before,
         behind: "' %}",
+        times: 1,
         last: "the last",
     };
     shows_one(alloc, lineage, name, "the last")
@@ -92,6 +102,20 @@ fn many_includes(rt: HostRuntime) {
         leads_on(rt.alloc(), 301, "{% include '", "1")
             && leads_on(rt.alloc(), 10_000, "{% include '", "9800")
     );
+}
+
+// From the first to the last of these lead 2^40 ways.
+const TWICE: Lineage<'static> = Lineage {
+    count: 41,
+    before: "{% include '",
+    behind: "' %}",
+    times: 2,
+    last: "x",
+};
+
+#[test]
+fn includes_that_branch(rt: HostRuntime) {
+    assert!(rt; shows_one(rt.alloc(), TWICE, "38", "xxxxxxxx"));
 }
 
 fn shows_number(alloc: Global, engine: &mut Tera, context: &Context, number: usize) -> bool {

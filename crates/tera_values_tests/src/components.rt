@@ -63,8 +63,7 @@ fn by_name(
 
 fn with_body(alloc: Global, given: &Map, body: Value) -> TeraResult<Value> {
     let implicits = named(alloc, &[("name", Text("Vincent"))])?;
-    let caller = Scopes::new(alloc, &implicits, None);
-    let context = show(alloc, None)?.build_context(alloc, given, &caller, Some(body))?;
+    let context = show(alloc, None)?.build_context(alloc, given, &implicits, Some(body))?;
     context.to_value()
 }
 

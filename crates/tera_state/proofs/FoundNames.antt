@@ -90,7 +90,7 @@ module _ (look_up : Name → Val) where
   -- what stands for a name of the list, and nothing for any other
   among : (n : Name) (ns : List Name) → at_name n (found_among look_up ns) ≡ cond (is_among n ns) (defined (Some (look_up n))) None
   among n [] = refl
-  among n (m ∷ ns) = by (bytes_eq n m) refl (is_undefined (look_up m)) refl
+  among n (m ∷ ns) = next (bytes_eq n m) refl (is_undefined (look_up m)) refl (among n ns)
     where
       rest : Named Val
       rest = found_among look_up ns
@@ -100,25 +100,25 @@ module _ (look_up : Name → Val) where
           ap (λ (v : Val). defined (Some v)) (ap look_up ((bytes_decides n m).0 same))
           ∙ ap (λ (t : Bool). cond t None (Some (look_up m))) u
 
-      by : (same : Bool) → bytes_eq n m ≡ same → (b : Bool) → is_undefined (look_up m) ≡ b → at_name n (cond b rest (put m (look_up m) rest)) ≡ cond (same || is_among n ns) (defined (Some (look_up n))) None
-      by true same true u = among n ns ∙ rest_too (is_among n ns) (defined (Some (look_up n))) (found same true u)
-      by true same false u =
+      next : (same : Bool) → bytes_eq n m ≡ same → (b : Bool) → is_undefined (look_up m) ≡ b → at_name n rest ≡ cond (is_among n ns) (defined (Some (look_up n))) None → at_name n (cond b rest (put m (look_up m) rest)) ≡ cond (same || is_among n ns) (defined (Some (look_up n))) None
+      next true same true u h = h ∙ rest_too (is_among n ns) (defined (Some (look_up n))) (found same true u)
+      next true same false u h =
           at_put n m (look_up m) rest
           ∙ ap (λ (t : Bool). cond t (Some (look_up m)) (at_name n rest)) same
           ∙ sym (found same false u)
-      by false other true u = among n ns
-      by false other false u =
+      next false other true u h = h
+      next false other false u h =
           at_put n m (look_up m) rest
           ∙ ap (λ (t : Bool). cond t (Some (look_up m)) (at_name n rest)) other
-          ∙ among n ns
+          ∙ h
 
   ascending : (ns : List Name) → IsAscending (found_among look_up ns)
   ascending [] = named_ascend [] [] refl
-  ascending (n ∷ ns) = by (is_undefined (look_up n))
+  ascending (n ∷ ns) = next (is_undefined (look_up n)) (ascending ns)
     where
-      by : (b : Bool) → IsAscending (cond b (found_among look_up ns) (put n (look_up n) (found_among look_up ns)))
-      by true = ascending ns
-      by false = put_ascends n (look_up n) (found_among look_up ns) (ascending ns)
+      next : (b : Bool) → IsAscending (found_among look_up ns) → IsAscending (cond b (found_among look_up ns) (put n (look_up n) (found_among look_up ns)))
+      next true h = h
+      next false h = put_ascends n (look_up n) (found_among look_up ns) h
 
   covered : (n : Name) → (there : Bool) → (there ≡ false → look_up n ≡ undefined) → cond there (defined (Some (look_up n))) None ≡ defined (Some (look_up n))
   covered n true h = refl

@@ -23,9 +23,9 @@ turns_of_items h v is e = with_items h (is_some h.key && not (is_map v)) (items_
 
 -- where a loop has turns it has items
 with_turns : (h : Heading) (b : Bool) (o : Option (List Item)) → IsOk (cond b (Err message) (turns_over h o)) → IsOk (cond b (Err message) (given o))
-with_turns h true o k = absurd k
-with_turns h false None k = absurd k
-with_turns h false (Some is) k = tt
+with_turns h true o k = k
+with_turns h false None k = k
+with_turns h false (Some is) k = refl
 
 pub turns_need_items : (h : Heading) (v : Val) → IsOk (loop_turns h v) → IsOk (items_for (is_some h.key) v)
 turns_need_items h v = with_turns h (is_some h.key && not (is_map v)) (items_in plain v)

@@ -49,6 +49,7 @@ impl ForLoop {
     }
 
     // The same, which counts or does not.
+    #[tactic(auto, using(crate::proofs::Started::turns_need_items))]
     fn begin(alloc: Global, name: Name, key: Option<Name>, counts: bool, target: Value) -> Begun
         ensures turns { Gives turns_left result (loop_turns (heading name key counts) target) }
         ensures items { IfOk result (λ opened. items_in plain target ≡ Some (items_over opened)) }

@@ -22,7 +22,7 @@ pub use tera_registry::{
     Body, Component, Defined, Definer, Definers, FoundTemplate, Templates, TextTable,
 };
 pub use tera_state::{
-    Filter, ForLoop, ForLoopIterator, Found, Function, Stack, State, StateOver, StringInput, Test,
+    Filter, ForLoop, ForLoopIterator, Found, Function, Implicits, Stack, State, StateOver, Test,
 };
 pub use tera_syntax::parse;
 pub use tera_syntax_tree::{
@@ -31,7 +31,9 @@ pub use tera_syntax_tree::{
     LiteralKey, Node, Operands, OwnedKey, Parameter, ParserOutput, Quoted, SectionFilter,
     Signature, Sliced,
 };
+// Values, names and errors.
 pub use tera_values::{
     ArgFromValue, Context, Counter, Error, ErrorKind, Key, Kwargs, Map, Name, ReportError, Shape,
-    Sought, Span, TeraResult, Value, ValueKind, escape_html, escape_xml, number,
+    Sought, Span, StringInput, TeraResult, Value, ValueKind, WritesValues, escape_html, escape_xml,
+    number,
 };

@@ -3,35 +3,138 @@
 
 pub mod components;
 pub mod engine;
+pub mod laws;
 pub mod registering;
 mod rendering;
 pub mod templates;
 mod texts;
 
-pub use engine::{Tera, TeraOver};
+pub use engine::Tera;
+pub use engine::TeraOver;
+pub use tera_built_ins::BuiltInFilter;
+pub use tera_built_ins::BuiltInFunction;
+pub use tera_built_ins::BuiltInTest;
 pub use tera_built_ins::EscapeFn;
-pub use tera_code::{
-    CallKind, Callee, Chunk, Comparison, Compiler, Constant, Instruction, Keys, LentInstruction,
-    LentName, Names, Spreads, Steps, Text,
-};
-pub use tera_components::{ComponentArg, ComponentDefinition, ComponentInfo};
-pub use tera_machine::{Configuration, Ended, LoopPlace, Texts, VirtualMachine};
-pub use tera_objects::{Call, CallerObjects, Objects, ObjectsOver, OwnFilters, Table};
-pub use tera_operators::{Entries, LentOperand, Operand};
-pub use tera_registry::{
-    Body, Component, Defined, Definer, Definers, FoundTemplate, Templates, TextTable,
-};
-pub use tera_state::{
-    Filter, ForLoop, ForLoopIterator, Found, Function, Stack, State, StateOver, StringInput, Test,
-};
+pub use tera_built_ins::Escaping;
+pub use tera_code::BlockCode;
+pub use tera_code::CallKind;
+pub use tera_code::Callee;
+pub use tera_code::Chunk;
+pub use tera_code::Comparison;
+pub use tera_code::Compiler;
+pub use tera_code::Constant;
+pub use tera_code::Instruction;
+pub use tera_code::Keys;
+pub use tera_code::LentInstruction;
+pub use tera_code::LentName;
+pub use tera_code::Names;
+pub use tera_code::Spreads;
+pub use tera_code::Steps;
+pub use tera_code::Target;
+pub use tera_code::Text;
+pub use tera_code::compiled;
+pub use tera_components::ComponentArg;
+pub use tera_components::ComponentDefinition;
+pub use tera_components::ComponentInfo;
+pub use tera_errors::lacking;
+pub use tera_machine::Asked;
+pub use tera_machine::AskedComponent;
+pub use tera_machine::AskedTemplate;
+pub use tera_machine::Configuration;
+pub use tera_machine::Ended;
+pub use tera_machine::LoopPlace;
+pub use tera_machine::Numbered;
+pub use tera_machine::OpenBlock;
+pub use tera_machine::OpenBlocks;
+pub use tera_machine::OpenThings;
+pub use tera_machine::Texts;
+pub use tera_machine::VirtualMachine;
+pub use tera_machine::Wanted;
+pub use tera_objects::Call;
+pub use tera_objects::CallerObjects;
+pub use tera_objects::Objects;
+pub use tera_objects::ObjectsOver;
+pub use tera_objects::OwnFilters;
+pub use tera_objects::Standard;
+pub use tera_objects::Stored;
+pub use tera_objects::StoredFilter;
+pub use tera_objects::StoredFunction;
+pub use tera_objects::StoredTest;
+pub use tera_objects::Table;
+pub use tera_operators as operators;
+pub use tera_operators::Entries;
+pub use tera_operators::LentOperand;
+pub use tera_operators::Operand;
+pub use tera_registry::Body;
+pub use tera_registry::Code;
+pub use tera_registry::Component;
+pub use tera_registry::Defined;
+pub use tera_registry::Definer;
+pub use tera_registry::Definers;
+pub use tera_registry::Entry as BodyEntry;
+pub use tera_registry::FoundTemplate;
+pub use tera_registry::Table as BodyTable;
+pub use tera_registry::Template;
+pub use tera_registry::Templates;
+pub use tera_registry::TextTable;
+pub use tera_state::Filter;
+pub use tera_state::ForLoop;
+pub use tera_state::ForLoopIterator;
+pub use tera_state::Found;
+pub use tera_state::Function;
+pub use tera_state::Stack;
+pub use tera_state::State;
+pub use tera_state::StateOver;
+pub use tera_state::StringInput;
+pub use tera_state::Test;
+pub use tera_state::write_value;
 pub use tera_syntax::parse;
-pub use tera_syntax_tree::{
-    Applied, Argument, ArgumentType, BinaryOperator, Bounds, Called, Captured, Choice, Collected,
-    ComponentTag, Delimiters, Entry, Expression, Heading, Indexed, Item, Literal, LiteralEntry,
-    LiteralKey, Node, Operands, OwnedKey, Parameter, ParserOutput, Quoted, SectionFilter,
-    Signature, Sliced,
-};
-pub use tera_values::{
-    ArgFromValue, Context, Counter, Error, ErrorKind, Key, Kwargs, Map, Name, ReportError, Shape,
-    Sought, Span, TeraResult, Value, ValueKind, escape_html, escape_xml, number,
-};
+pub use tera_syntax_tree::Applied;
+pub use tera_syntax_tree::Argument;
+pub use tera_syntax_tree::ArgumentType;
+pub use tera_syntax_tree::BinaryOperator;
+pub use tera_syntax_tree::Bounds;
+pub use tera_syntax_tree::Called;
+pub use tera_syntax_tree::Captured;
+pub use tera_syntax_tree::Choice;
+pub use tera_syntax_tree::Collected;
+pub use tera_syntax_tree::ComponentTag;
+pub use tera_syntax_tree::Delimiters;
+pub use tera_syntax_tree::Entry;
+pub use tera_syntax_tree::Expression;
+pub use tera_syntax_tree::Heading;
+pub use tera_syntax_tree::Indexed;
+pub use tera_syntax_tree::Item;
+pub use tera_syntax_tree::Literal;
+pub use tera_syntax_tree::LiteralEntry;
+pub use tera_syntax_tree::LiteralKey;
+pub use tera_syntax_tree::Node;
+pub use tera_syntax_tree::Operands;
+pub use tera_syntax_tree::OwnedKey;
+pub use tera_syntax_tree::Parameter;
+pub use tera_syntax_tree::ParserOutput;
+pub use tera_syntax_tree::Quoted;
+pub use tera_syntax_tree::SectionFilter;
+pub use tera_syntax_tree::Signature;
+pub use tera_syntax_tree::Sliced;
+pub use tera_values::ArgFromValue;
+pub use tera_values::Context;
+pub use tera_values::Counter;
+pub use tera_values::Error;
+pub use tera_values::ErrorKind;
+pub use tera_values::Key;
+pub use tera_values::Kwargs;
+pub use tera_values::Map;
+pub use tera_values::Name;
+pub use tera_values::ReportError;
+pub use tera_values::Shape;
+pub use tera_values::Sought;
+pub use tera_values::Span;
+pub use tera_values::TeraResult;
+pub use tera_values::Value;
+pub use tera_values::ValueKind;
+pub use tera_values::escape_html;
+pub use tera_values::escape_xml;
+pub use tera_values::number;
+pub use tera_values_data::copy_items;
+pub use tera_variables as variables;

@@ -112,7 +112,10 @@ impl<E: Drop, F: Drop, T: Drop, G: Drop> ObjectsOver<E, F, T, G> {
     {
         match self.filters.table.get(name) {
             Some(own) => Some(Stored::Own(own)),
-            None => Some(Stored::BuiltIn(BuiltInFilter::named(name)?)),
+            None => match BuiltInFilter::named(name) {
+                Some(filter) => Some(Stored::BuiltIn(filter)),
+                None => None,
+            },
         }
     }
 
@@ -123,7 +126,10 @@ impl<E: Drop, F: Drop, T: Drop, G: Drop> ObjectsOver<E, F, T, G> {
     {
         match self.tests.get(name) {
             Some(own) => Some(Stored::Own(own)),
-            None => Some(Stored::BuiltIn(BuiltInTest::named(name)?)),
+            None => match BuiltInTest::named(name) {
+                Some(test) => Some(Stored::BuiltIn(test)),
+                None => None,
+            },
         }
     }
 
@@ -134,7 +140,10 @@ impl<E: Drop, F: Drop, T: Drop, G: Drop> ObjectsOver<E, F, T, G> {
     {
         match self.functions.get(name) {
             Some(own) => Some(Stored::Own(own)),
-            None => Some(Stored::BuiltIn(BuiltInFunction::named(name)?)),
+            None => match BuiltInFunction::named(name) {
+                Some(function) => Some(Stored::BuiltIn(function)),
+                None => None,
+            },
         }
     }
 

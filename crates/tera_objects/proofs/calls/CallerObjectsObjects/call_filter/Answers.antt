@@ -3,9 +3,9 @@ use Rattle.tera_objects.proofs.calls.CallerObjectsObjects.call_filter.Goals as g
 
 pub returns-in_default : goal.returns-in_default
 returns-in_default g c =
-    no-filter _ _ c.args.self.now c.args.call c.args.value.now _ c.filter.result c.filter.ensures c.in_default.is c.message.ensures
+    no-filter _ _ c.args.self.now c.args.call c.args.value.now c.filter.result c.filter.ensures c.message.result c.in_default.is c.message.ensures
 
 pub returns : goal.returns
 returns g c =
-    filter-stored _ _ c.args.self.now c.args.call c.args.value.now _ c.filter.result c.filter.ensures
+    filter-stored _ _ c.args.self.now c.args.call c.args.value.now c.filter.result c.filter.ensures _
     c.lent-state.ensures c.in-Some.is c.is_safe.ensures (c.marked_if.ensures _ c.call.ensures)

@@ -3,9 +3,9 @@ use Rattle.tera_objects.proofs.calls.CallerObjectsObjects.call_function.Goals as
 
 pub returns-in_default : goal.returns-in_default
 returns-in_default g c =
-    no-function _ _ c.args.self.now c.args.call _ _ c.function.result c.function.ensures c.in_default.is c.message.ensures
+    no-function _ _ c.args.self.now c.args.call _ c.function.result c.function.ensures c.message.result c.in_default.is c.message.ensures
 
 pub returns : goal.returns
 returns g c =
-    function-stored _ _ c.args.self.now c.args.call _ _ c.function.result c.function.ensures
+    function-stored _ _ c.args.self.now c.args.call _ c.function.result c.function.ensures _
     c.lent-state.ensures c.in-Some.is c.is_safe.ensures (c.marked_if.ensures _ c.call.ensures)

@@ -3,9 +3,9 @@ use Rattle.tera_objects.proofs.calls.CallerObjectsObjects.call_test.Goals as goa
 
 pub returns-in_default : goal.returns-in_default
 returns-in_default g c =
-    no-test _ _ c.args.self.now c.args.call _ c.args.value.now _ c.test.result c.test.ensures c.in_default.is c.message.ensures
+    no-test _ _ c.args.self.now c.args.call _ c.args.value.now c.test.result c.test.ensures c.message.result c.in_default.is c.message.ensures
 
 pub returns : goal.returns
 returns g c =
-    test-stored _ _ c.args.self.now c.args.call _ c.args.value.now _ c.test.result c.test.ensures
+    test-stored _ _ c.args.self.now c.args.call _ c.args.value.now c.test.result c.test.ensures _
     c.lent-state.ensures c.in-Some.is c.call.ensures

@@ -64,7 +64,10 @@ impl Objects for CallerObjects {
     fn call_test(&self, call: Call<'_>, value: &Value) -> TeraResult<bool> {
         match self.test(call.name) {
             Some(Stored::BuiltIn(test)) => test.call(call.alloc, value, &call.arguments),
-            Some(own) => own.call(value, call.arguments, &lent(self, &call)),
+            Some(own) => {
+                let state = lent(self, &call);
+                own.call(value, call.arguments, &state)
+            }
             None => Err(Error::message(call.alloc, "there is no such test")),
         }
     }

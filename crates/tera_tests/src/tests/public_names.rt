@@ -117,7 +117,7 @@ fn is_walked(alloc: Global, items: &Value) -> TeraResult<bool> {
 fn is_found(alloc: Global, value: &Value) -> TeraResult<bool> {
     match (value.get_attr("a"), value.get_from_path("a.1")) {
         (Some(items), Some(two)) => {
-            Ok(two.as_key(alloc)? == Key::Int(2) && is_walked(alloc, items)?)
+            Ok(matches!(two.as_key(alloc)?, Key::Int(2)) && is_walked(alloc, items)?)
         }
         _ => Ok(false),
     }
@@ -365,7 +365,7 @@ fn are_appended(alloc: Global, engine: &Tera) -> TeraResult<bool> {
     engine.render_block_to("page", "b", &none, &mut out)?;
     engine.render_str_to("-", &none, true, &mut out)?;
     engine.render_component_to("C", &given, &none, None, true, &mut out)?;
-    Ok(out.as_slice() == b"<b><b>-[1]")
+    Ok(out.as_slice() == b"<b><b>-[1]".as_slice())
 }
 
 fn is_whole(alloc: Global) -> TeraResult<bool> {

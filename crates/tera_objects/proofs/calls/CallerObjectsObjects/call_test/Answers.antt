@@ -8,7 +8,7 @@ returns-in-BuiltIn-in-Some g c =
 pub returns-in-Some : goal.returns-in-Some
 returns-in-Some g c =
     test-stored _ _ c.args.self.now c.args.call _ c.args.value.now c.test.result c.test.ensures _
-    c.lent.ensures c.in-Some.is c.call-in-Some.ensures
+    c.lent-state.ensures c.in-Some.is c.call-in-Some.ensures
 
 pub returns-in-None : goal.returns-in-None
 returns-in-None g c =

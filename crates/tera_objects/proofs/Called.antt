@@ -10,7 +10,6 @@ use Rattle.tera_built_ins.specs.declared.filter.BuiltInFilter.{BuiltInFilter}
 use Rattle.tera_built_ins.specs.declared.test.BuiltInTest.{BuiltInTest}
 use Rattle.tera_built_ins.specs.declared.function.BuiltInFunction.{BuiltInFunction}
 use Rattle.tera_built_ins.specs.Escaping.{escape_or_html}
-use Rattle.tera_built_ins.specs.TestTable.{test_of}
 use Rattle.tera_state.specs.Scopes.{around_of, variables_of}
 use Rattle.tera_state.specs.View.{View, NamedFilters, view_at, filters_left}
 use Rattle.tera_objects.specs.Calling.{answer_of, all_bare, filter_called, test_called, function_called}
@@ -147,13 +146,6 @@ module _ {E F T G : Type 0} (escape : E → Text → Text) (filter : F → OwnFi
         (ap (λ (w : View). test_answer (λ x. (test x).meaning) w t v call.arguments) (lent-here same)
         ∙ test-answers here call.arguments test t v
         ∙ ap (λ (c : Option (Callee OwnTest BuiltInTest)). test_called plain here c v call.arguments) (sym (ap (option_map (callee_of test)) is) ∙ test-at))
-        gives
-
-    pub test-built_in : (result : Result Bool SeenError) {t : BuiltInTest} → r ≡ Some (BuiltIn t)
-        → Gives (λ (b : Bool). b) result (test_of plain t v call.arguments) → Gives (λ (b : Bool). b) result (tested (engine_with tests []) call v)
-    test-built_in result {t} is gives =
-        subst (λ (meant : Result Bool Fault). Gives (λ (b : Bool). b) result meant)
-        (ap (λ (c : Option (Callee OwnTest BuiltInTest)). test_called plain here c v call.arguments) (sym (ap (option_map (callee_of test)) is) ∙ test-at))
         gives
 
     pub no-test : (e : SeenError) → r ≡ None → Tells e message → Says e (tested (engine_with tests []) call v)

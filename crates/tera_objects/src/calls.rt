@@ -4,7 +4,6 @@ use crate::call::Call;
 use crate::marked::marked_if;
 use crate::objects::Objects;
 use crate::over::CallerObjects;
-use crate::stored::Stored;
 use std::alloc::{AllocError, Global};
 use tera_values::{Error, Shape, TeraResult, Value};
 
@@ -60,16 +59,12 @@ impl Objects for CallerObjects {
         marked_if(filter.is_safe(), filter.call(value, call.arguments, &state))
     }
 
-    // A built-in test sees nothing of the rendering, so that no state is lent to it.
     fn call_test(&self, call: Call<'_>, value: &Value) -> TeraResult<bool> {
-        match self.test(call.name) {
-            Some(Stored::BuiltIn(test)) => test.call(call.alloc, value, &call.arguments),
-            Some(own) => {
-                let state = lent(self, &call);
-                own.call(value, call.arguments, &state)
-            }
-            None => Err(Error::message(call.alloc, "there is no such test")),
-        }
+        let Some(test) = self.test(call.name) else {
+            return Err(Error::message(call.alloc, "there is no such test"));
+        };
+        let state = lent(self, &call);
+        test.call(value, call.arguments, &state)
     }
 
     fn call_function(&self, call: Call<'_>) -> TeraResult<Value> {

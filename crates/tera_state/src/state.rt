@@ -163,8 +163,8 @@ impl<'a, 'c, E: EscapeFn> StateOver<'a, 'c, E> {
         self.source.look(name)
     }
 
-    // What a built-in sees of it.
-    fn escaping(&self) -> Escaping<'_, Option<E>>
+    /// What a built-in sees of it.
+    pub fn escaping(&self) -> Escaping<'_, Option<E>>
         ensures { escaping_of (escape_or_html E.escaped) result
             ≡ escaping_in (view_of E.escaped self.now) }
     {

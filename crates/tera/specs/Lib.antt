@@ -4,12 +4,18 @@ pub mod Rendering
 pub mod Configuring
 pub mod Lending
 pub mod Registering
+pub mod FixedText
+pub mod PageLaws
 -- what its contracts speak of besides: a caller names it from here, and lists `tera` alone
 pub use Rattle.tera_errors.specs.Site
 pub use Rattle.tera_errors.specs.Fault
 pub use Rattle.tera_errors.specs.Answer
 pub use Rattle.tera_errors.specs.Report
 pub use Rattle.tera_syntax_tree.specs.Delimiters
+pub use Rattle.tera_syntax_tree.specs.Tree
+pub use Rattle.tera_syntax.specs.Reads
+pub use Rattle.tera_syntax.specs.TreeRead
+pub use Rattle.tera_values.specs.Alphabet
 pub use Rattle.tera_values.specs.Val
 pub use Rattle.tera_values.specs.Named
 pub use Rattle.tera_values.specs.Number
@@ -23,6 +29,10 @@ pub use Rattle.tera_meaning.specs.Accepted
 pub use Rattle.tera_meaning.specs.Components
 pub use Rattle.tera_meaning.specs.Resolve
 pub use Rattle.tera_meaning.specs.Variables
+pub use Rattle.tera_marks.specs.Origin
+pub use Rattle.tera_marks.specs.Sources
+pub use Rattle.tera_marks.specs.Renderings
+pub use Rattle.tera_marks.specs.Foreign
 pub use Rattle.tera_registry.specs.Batch
 pub use Rattle.tera_registry.specs.Templates
 pub mod Prelude

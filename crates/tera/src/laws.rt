@@ -1,0 +1,16 @@
+//! What callers prove of their own pages by: each law is the contract of a function that does nothing.
+ghost use Rattle.tera.specs.PageLaws.{MarkupIsTheTexts, RendersAsComputed};
+
+/// What `render_str` and `one_off` answer for a text is what the text computes to, as a function of it, of the context and of
+/// the registry. So the exact bytes of a page of which the text is written out need no derivation.
+#[tactic(auto, using(crate::proofs::FixedText::renders_as_computed))]
+pub fn renders_as_computed()
+    ensures { RendersAsComputed }
+{}
+
+/// Where texts are escaped, by `escape_html`, and nothing is marked safe, all markup of a page is its text's own: no `<`, `>`,
+/// `"` or `'` of a value of the caller is in it as it is.
+#[tactic(auto, using(crate::proofs::FixedText::markup_is_the_texts))]
+pub fn markup_is_the_texts()
+    ensures { MarkupIsTheTexts }
+{}

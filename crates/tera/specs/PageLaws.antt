@@ -1,18 +1,17 @@
 -- What callers prove of their own pages by.
-use Rattle.std.specs.Prelude.{◌≡◌, Bool, true, Some, Result, Ok, IfSome}
+use Rattle.std.specs.Prelude.{◌≡◌, Bool, true, Some, Result, Ok}
 use Rattle.tera_errors.specs.Site.{Text}
 use Rattle.tera_errors.specs.Fault.{Fault}
 use Rattle.tera_values.specs.Escape.{escape_html}
 use Rattle.tera_values.specs.Val.{Val}
 use Rattle.tera_values.specs.Named.{Named}
 use Rattle.tera_meaning.specs.Registry.{Registry}
-use Rattle.tera_marks.specs.Foreign.{MarkNoneSafe}
-use Rattle.tera.specs.FixedText.{text_rendered, text_sources, HasOwnMarkup}
+use Rattle.tera.specs.FixedText.{text_rendered, TextMarksNoneSafe, TextHasOwnMarkup}
 use Rattle.tera.specs.Rendering.{OneOff}
 
 -- A text beside the registry is answered as it computes.
-abbrev pub RendersAsComputed : Type 0
-RendersAsComputed =
+abbrev pub AnswersAsComputed : Type 0
+AnswersAsComputed =
     (r : Registry) (text : Text) (context : Named Val) (autoescape : Bool)
     (meant answer : Result Text Fault)
     → text_rendered r text context autoescape ≡ Some meant
@@ -24,6 +23,6 @@ RendersAsComputed =
 abbrev pub MarkupIsTheTexts : Type 0
 MarkupIsTheTexts =
     (r : Registry) (text : Text) (context : Named Val) (page : Text)
-    → r.engine.escape ≡ escape_html → IfSome (text_sources r text context) MarkNoneSafe
+    → r.engine.escape ≡ escape_html → TextMarksNoneSafe r text context
     → OneOff r text context true (Ok page)
-    → HasOwnMarkup r text context page
+    → TextHasOwnMarkup r text context page

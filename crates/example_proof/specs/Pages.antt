@@ -9,11 +9,11 @@ use Rattle.tera.specs.Escape.{escape_html}
 abbrev pub greeting : Text → Text
 greeting name = codes "<p>Hello " ++ (escape_html name ++ codes "!</p>")
 
--- what a page is given: a text of the user, at this name, that is not marked safe
-abbrev pub given : Name → Text → Named Val
-given name t = put name (text t false) []
-
 -- the text of the page that lists words
 abbrev pub word_list : Text
 word_list =
     codes "<ul>{% for word in message | split(pat=' ') %}<li>{{ word }}</li>{% endfor %}</ul>"
+
+-- what a page is given: this text at this name, not marked safe
+abbrev pub context_of : Name → Text → Named Val
+context_of name t = put name (text t false) []

@@ -1,5 +1,5 @@
 -- What a text of which the tree is computed renders to, and where its markup comes from.
-use Rattle.std.proofs.Common.{◌≡◌, Bool, true, Option, Some, None, Result, Ok, Err, IsSomeAnd, option_map, refl, ap, sym, ◌∙◌}
+use Rattle.std.proofs.Common.{◌≡◌, Bool, true, Option, Some, None, Result, Ok, Err, IfOk, IsSomeAnd, option_map, refl, ap, sym, ◌∙◌, subst}
 use Rattle.tera_errors.specs.Site.{Text}
 use Rattle.tera_errors.specs.Fault.{Fault}
 use Rattle.tera_errors.specs.Answer.{SeenError, Gives, GivesOneOf}
@@ -15,7 +15,7 @@ use Rattle.tera_meaning.specs.Rendering.{render_str}
 use Rattle.tera_marks.specs.Renderings.{Rendering, of_text, sources}
 use Rattle.tera_marks.specs.Foreign.{HasOwnMarkup, MarksNoneSafe}
 use Rattle.tera_marks.proofs.Foreign.{markup_is_the_templates}
-use Rattle.tera.specs.FixedText.{text_rendered}
+use Rattle.tera.specs.FixedText.{text_rendered, TextMarksNoneSafe, TextHasOwnMarkup}
 use Rattle.tera.specs.PageLaws.{AnswersAsComputed, MarkupIsTheTexts}
 use Rattle.tera.specs.Rendering.{OneOff}
 
@@ -47,9 +47,24 @@ pub markup_is_the_texts : MarkupIsTheTexts
 markup_is_the_texts r text context page by_html none_safe one =
     own-by r text context page by_html one.reading (tree_read r.delimiters text) (answers_as_read one_off_name r.delimiters text one.reading one.read) one.is none_safe
 
--- so a call that renders the text gives what it computes to, but for want of memory
-pub gives_computed : {X : Type 0} (view : X → Text) (result : Result X SeenError) (r : Registry) (text : Text) (context : Named Val) (autoescape : Bool) (meant : Result Text Fault)
-    → text_rendered r text context autoescape ≡ Some meant → GivesOneOf view result (OneOff r text context autoescape) → Gives view result meant
-gives_computed view (Ok x) r text context autoescape meant e h = sym (answers_as_computed r text context autoescape meant (Ok (view x)) e h)
-gives_computed view (Err None) r text context autoescape meant e h = tt
-gives_computed view (Err (Some fault)) r text context autoescape meant e h = sym (answers_as_computed r text context autoescape meant (Err fault) e h)
+-- What a call gives that renders the text in this context.
+module _ {X : Type 0} (view : X → Text) (result : Result X SeenError) (r : Registry) (text : Text) (context given : Named Val) (is : context ≡ given) where
+  computed-in : (autoescape : Bool) (meant answer : Result Text Fault) → text_rendered r text given autoescape ≡ Some meant → OneOff r text context autoescape answer → meant ≡ answer
+  computed-in autoescape meant answer e one = sym (answers_as_computed r text context autoescape meant answer (ap (λ c. text_rendered r text c autoescape) is ∙ e) one)
+
+  -- what the text computes to, but for want of memory
+  pub gives_computed : (autoescape : Bool) (meant : Result Text Fault) → text_rendered r text given autoescape ≡ Some meant → GivesOneOf view result (OneOff r text context autoescape) → Gives view result meant
+  gives_computed autoescape meant e h = by result h
+    where
+      by : (answer : Result X SeenError) → GivesOneOf view answer (OneOff r text context autoescape) → Gives view answer meant
+      by (Ok x) one = computed-in autoescape meant (Ok (view x)) e one
+      by (Err None) one = tt
+      by (Err (Some fault)) one = computed-in autoescape meant (Err fault) e one
+
+  -- a page whose markup is all the text's own
+  pub gives_own_markup : r.engine.escape ≡ escape_html → TextMarksNoneSafe r text given → GivesOneOf view result (OneOff r text context true) → IfOk result (λ page. TextHasOwnMarkup r text given (view page))
+  gives_own_markup by_html none_safe h = by result h
+    where
+      by : (answer : Result X SeenError) → GivesOneOf view answer (OneOff r text context true) → IfOk answer (λ page. TextHasOwnMarkup r text given (view page))
+      by (Ok x) one = markup_is_the_texts r text given (view x) by_html none_safe (subst (λ c. OneOff r text c true (Ok (view x))) is one)
+      by (Err e) one = tt

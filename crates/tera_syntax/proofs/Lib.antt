@@ -13,3 +13,4 @@ pub mod Extending
 pub mod Plain
 pub mod Inside
 pub mod TreeRead
+pub mod Computes

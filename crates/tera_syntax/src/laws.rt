@@ -13,14 +13,12 @@ pub fn spans_inside()
 
 /// What the reader makes of a text as a function is what the text spells: the well-formed tree that it spells, and no other;
 /// where the function makes none, the text spells none.
-#[tactic(auto, using(crate::proofs::TreeRead::reads_as_spelled))]
 pub fn reads_as_spelled()
     ensures { ReadsAsSpelled }
 {}
 
 /// So `parse` answers what the function makes of a text: its tree, or a syntax error where it makes none. The tree of a text
 /// that is written out can be computed in a proof, and need not be derived.
-#[tactic(auto, using(crate::proofs::TreeRead::answers_as_read))]
 pub fn answers_as_read()
     ensures { AnswersAsRead }
 {}

@@ -1,8 +1,9 @@
 // Pages of which the text is fixed, for any text of the user.
 ghost use Rattle.std.specs.Prelude.{◌≡◌, Ok, IfErr, IfOk, codes, string_bytes};
 ghost use Rattle.tera.specs.FixedText.{TextHasOwnMarkup};
-ghost use Rattle.tera.specs.Prelude.{Gives, Lacks};
+ghost use Rattle.tera.specs.Prelude.{Gives, GivesOneOf, Lacks};
 ghost use Rattle.tera.specs.Registry.{new_registry};
+ghost use Rattle.tera.specs.Rendering.{OneOff};
 ghost use Rattle.example_proof.specs.Pages.{context_of, greeting, word_list};
 
 use std::alloc::Global;
@@ -26,9 +27,12 @@ pub fn greet(alloc: Global, name: &str) -> TeraResult<String>
     Tera::one_off(alloc, "<p>Hello {{ name }}!</p>", &context, true)
 }
 
-/// The words of a message, each an item of a list. No `<`, `>`, `"` or `'` in it comes from the message: all are the page's own.
+/// The words of a message, each an item of a list: what the text of the page means. No `<`, `>`, `"` or `'` in it comes from the
+/// message, but all are the page's own.
 pub fn list_words(alloc: Global, message: &str) -> TeraResult<String>
-    ensures { let context = context_of (codes "message") message.now in
+    ensures is { let context = context_of (codes "message") message.now in
+        GivesOneOf string_bytes result (OneOff new_registry word_list context true) }
+    ensures own_markup { let context = context_of (codes "message") message.now in
         IfOk result (λ page. TextHasOwnMarkup new_registry word_list context (string_bytes page)) }
 {
     let context = context_of(alloc, "message", message)?;

@@ -4,6 +4,8 @@ pub mod Rendering
 pub mod Configuring
 pub mod Lending
 pub mod Registering
+pub mod FixedText
+pub mod PageLaws
 -- What its contracts and those of the types that it passes on speak of besides: a caller names it
 -- from here, and lists `tera` alone. Where two crates have a file of one name, it is told apart by
 -- what it is about.
@@ -25,6 +27,7 @@ pub use Rattle.tera_syntax_tree.specs.Inside
 pub use Rattle.tera_syntax.specs.Grammar
 pub use Rattle.tera_syntax.specs.Spells
 pub use Rattle.tera_syntax.specs.Reads
+pub use Rattle.tera_syntax.specs.TreeRead
 pub use Rattle.tera_syntax.specs.Laws as SyntaxLaws
 pub use Rattle.tera_variables.specs.Free
 pub use Rattle.tera_variables.specs.Sets
@@ -77,7 +80,6 @@ pub use Rattle.tera_state.specs.Scopes
 pub use Rattle.tera_state.specs.Found
 pub use Rattle.tera_state.specs.Rendered
 pub use Rattle.tera_state.specs.View
-pub use Rattle.tera_state.specs.MarkedTexts
 pub use Rattle.tera_objects.specs.Engine
 pub use Rattle.tera_objects.specs.Calling
 pub use Rattle.tera_objects.specs.Called
@@ -110,6 +112,7 @@ pub use Rattle.tera_meaning.specs.BodyLaws
 pub use Rattle.tera_marks.specs.Origin
 pub use Rattle.tera_marks.specs.Sources
 pub use Rattle.tera_marks.specs.Renderings
+pub use Rattle.tera_marks.specs.Foreign
 -- code, the templates that are kept, and the machine
 pub use Rattle.tera_code.specs.Constant
 pub use Rattle.tera_code.specs.Packed

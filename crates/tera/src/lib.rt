@@ -4,6 +4,7 @@
 pub mod components;
 pub mod engine;
 pub mod laws;
+pub mod page_laws;
 pub mod registering;
 mod rendering;
 pub mod templates;

@@ -1,13 +1,13 @@
 -- What is no text of a template holds no markup, where nothing is marked safe.
-use Rattle.std.proofs.Common.{◌≡◌, ℕ, true, IsTrue, List, [], ◌∷◌, Option, Some, None, Result, Ok, Err, refl, ◌∙◌, flat_map}
+use Rattle.std.proofs.Common.{◌≡◌, ℕ, true, IsTrue, List, [], ◌∷◌, Option, Some, None, Result, Ok, refl, ◌∙◌, flat_map}
 use Rattle.std.specs.List.{AllByRecursion}
 use Rattle.tera_errors.specs.Site.{Text}
 use Rattle.tera_errors.specs.Fault.{Fault}
-use Rattle.tera_values.specs.Alphabet.{Mark, template, marked_safe, escaped, made, outside, Marked, plain, marking}
+use Rattle.tera_values.specs.Alphabet.{Mark, template, marked_safe, escaped, made, outside, Marked, marking}
 use Rattle.tera_meaning.specs.Registry.{Registry}
 use Rattle.tera_built_ins.specs.Filters.{filter_named}
 use Rattle.tera_built_ins.specs.FunctionTable.{function_named}
-use Rattle.tera_objects.specs.Engine.{own, built_in, own_or_built_in, standard_engine}
+use Rattle.tera_objects.specs.Engine.{own, own_or_built_in, standard_engine}
 use Rattle.tera_marks.specs.Sources.{safe_texts, stands_in, Sources, IsAnswered, by_filter, by_function, IsMarkedSafe, in_value, in_answer, by_template, ComesBy, ComesFrom}
 use Rattle.tera_marks.specs.Renderings.{Rendering, answered_in, sources}
 use Rattle.tera_marks.specs.Foreign.{foreign, HoldsNoMarkup, HasOwnMarkup, MarksNoneSafe, MarkupIsTheTemplates}

@@ -8,7 +8,7 @@ use Rattle.tera_syntax.specs.TreeRead.{tree_read}
 abbrev samples : List Text
 samples =
     codes "{% set a = [1, ...b, -c ** 2, 'x\\n'][0:1:-1] %}{% set m = {\"k\": x.y?.z, 1: true, ...n}?[\"k\"] %}{{ [x * 2 for k, x in m if not x == 2] }}{{ [] }}{{ {} }}"
-    ∷ codes "{% set_global t | trim %} {{- f(a=none) | g(b=false) if (a and b) or c not in d else e is not odd ~ h -}} {% endset %}{% filter replace(from='o', to='') | upper %}{{ x }}{% endfilter %}"
+    ∷ codes "{% set_global t | trim %} {{- f(a=none) | g(b=false) if (a and b) or c not in d else h ~ e is not odd -}} {% endset %}{% filter replace(from='o', to='') | upper %}{{ x }}{% endfilter %}"
     ∷ codes "{% for k, v in m %}{{ loop.index }}{% if v is defined %}{% break %}{% elif v %}{% continue %}{% else %}{% endif %}{% else %}{% endfor %}{% include \"i\" %}{# c #}{% raw %}{{ x }}{% endraw %}"
     ∷ codes " {# c #}{% extends 'p' %}{% block t %}{{ super() }}{% endblock t %}{% component Q(a: String, b = {\"x\": [1, -2]}, ...rest) %}{{ rest }}{% endcomponent Q %}"
     ∷ codes "{% <Q a=\"1\" b={1} {...c}> %}b{% </Q> %}{{ <Q a='t'/> }}"

@@ -12,6 +12,8 @@ ghost use Rattle.tera.specs.Rendering.{ComponentByName, AppendsOneOf};
 
 use crate::engine::TeraOver;
 use std::alloc::Global;
+use std::marker::Brand;
+use std::sync::ledger::{Blank, Ledger};
 use tera_components::ComponentInfo;
 use tera_machine::VirtualMachine;
 use tera_objects::Objects;
@@ -116,17 +118,19 @@ impl<O: Objects> TeraOver<O> {
             Err(error) => return Err(error),
         };
         scopes.enter_component(context)?;
-        self.run_component(found, scopes, autoescape)
+        self.run_component::<Brand>(found, scopes, autoescape, Blank::new(1))
     }
 
     // The text of the body of a component, which reads these scopes. The subject is the body's.
-    fn run_component(
+    fn run_component<L: Ledger>(
         &self,
         found: Defined<'_>,
         scopes: Scopes<'_>,
         autoescape: bool,
+        blank: Blank,
     ) -> TeraResult<String>
         ghost about: { Subject }
+        requires ledger { (blank.name ≡ L.name) × (blank.parts ≡ L.parts) × (L.parts ≡ 1) }
         requires subject { about ≡ subject_of_component (registry_of O.engine self.now)
             (component (registry_of O.engine self.now) found.definition.now.name)
             (around_of scopes) autoescape }
@@ -136,7 +140,7 @@ impl<O: Objects> TeraOver<O> {
         ensures { Gives string_bytes result (text_meant about) }
     {
         let machine = VirtualMachine::new_with_autoescape(self.alloc, autoescape, &self.objects);
-        self.run_within(&machine, found.body, scopes)
+        self.run_within::<L>(&machine, found.body, scopes, blank)
     }
 }
 

@@ -11,6 +11,8 @@ ghost use Rattle.tera_machine.specs.Prelude.{Subject, IsLinked, IsOf, engine_of}
 
 use crate::engine::TeraOver;
 use std::alloc::{AllocError, Global};
+use std::marker::Brand;
+use std::sync::ledger::{Blank, Ledger};
 use tera_code::{Chunk, Steps, compiled};
 use tera_machine::{Configuration, VirtualMachine};
 use tera_objects::Objects;
@@ -39,7 +41,12 @@ impl<O: Objects> TeraOver<O> {
     {
         match parse(self.alloc, ONE_OFF, input, &self.delimiters) {
             Ok(output) => match allow(self.alloc, &output) {
-                Ok(()) => self.render_nodes(output.nodes.as_slice(), context, autoescape),
+                Ok(()) => self.render_nodes::<Brand>(
+                    output.nodes.as_slice(),
+                    context,
+                    autoescape,
+                    Blank::new(1),
+                ),
                 Err(error) => Err(error),
             },
             Err(error) => Err(error),
@@ -48,13 +55,15 @@ impl<O: Objects> TeraOver<O> {
 
     // The text of these nodes, which stand beside the registry; an error where they call or include what is not there. The
     // subject is theirs.
-    fn render_nodes<'s>(
+    fn render_nodes<'s, L: Ledger>(
         &'s self,
         nodes: &[Node],
         context: &'s Context,
         autoescape: bool,
+        blank: Blank,
     ) -> TeraResult<String>
         ghost about: { Subject }
+        requires ledger { (blank.name ≡ L.name) × (blank.parts ≡ L.parts) × (L.parts ≡ 1) }
         requires subject { about
             ≡ subject_beside (registry_of O.engine self.now) (nodes_of nodes.now)
             context.now autoescape }
@@ -75,7 +84,7 @@ impl<O: Objects> TeraOver<O> {
         let machine = alone.with_text(&text);
         let body = text.body();
         let scopes = self.scopes_for(body.chunk(), context)?;
-        self.run_within(&machine, body, scopes)
+        self.run_within::<L>(&machine, body, scopes, blank)
     }
 
     // The text of a template that was found, from the body of its root on: the file that its code names says of which. The
@@ -98,18 +107,20 @@ impl<O: Objects> TeraOver<O> {
         let autoescape = self.escapes(found);
         let machine = VirtualMachine::for_template(self.alloc, autoescape, found, &self.objects);
         let scopes = self.scopes_for(root.chunk(), context)?;
-        self.run_within(&machine, root, scopes)
+        self.run_within::<Brand>(&machine, root, scopes, Blank::new(1))
     }
 
     // The text that a block of a template had when it ended last, while all of the template was rendered. The subject is as above.
-    pub(crate) fn render_found_block<'t>(
+    pub(crate) fn render_found_block<'t, L: Ledger>(
         &self,
         found: FoundTemplate<'t>,
         root: Body<'t>,
         block: &Name,
         context: &Context,
+        blank: Blank,
     ) -> TeraResult<String>
         ghost about: { Subject }
+        requires ledger { (blank.name ≡ L.name) × (blank.parts ≡ L.parts) × (L.parts ≡ 1) }
         requires subject { about ≡ subject_of_file (registry_of O.engine self.now) found.name.now
             (code_of root).file context.now }
         requires linked { with_templates about.world.registry found.templates.now
@@ -122,8 +133,8 @@ impl<O: Objects> TeraOver<O> {
         let machine = VirtualMachine::for_template(self.alloc, autoescape, found, &self.objects);
         let scopes = self.scopes_for(root.chunk(), context)?;
         let mut configuration = Configuration::new(self.alloc, scopes);
-        let mut steps = Steps::new();
-        machine.run_for_block(root, block, &mut configuration, &mut steps)
+        let mut steps = Steps::<L>::new(blank);
+        machine.run_for_block::<L>(root, block, &mut configuration, &mut steps)
     }
 
     // The scopes of a body that reads this context: names that its code reads often are found without a search.
@@ -142,13 +153,15 @@ impl<O: Objects> TeraOver<O> {
     }
 
     // The text of a body that reads these scopes. The subject is the body's: it tells the machine what it means.
-    pub(crate) fn run_within<'t>(
+    pub(crate) fn run_within<'t, L: Ledger>(
         &self,
         machine: &VirtualMachine<'t, O>,
         body: Body<'t>,
         scopes: Scopes<'_>,
+        blank: Blank,
     ) -> TeraResult<String>
         ghost about: { Subject }
+        requires ledger { (blank.name ≡ L.name) × (blank.parts ≡ L.parts) × (L.parts ≡ 1) }
         requires registry { about.world.registry ≡ registry_of O.engine self.now }
         requires engine { engine_of O.engine machine.now ≡ about.world.registry.engine }
         requires linked { IsLinked machine.now about.world }
@@ -159,8 +172,8 @@ impl<O: Objects> TeraOver<O> {
         ensures { Gives string_bytes result (text_meant about) }
     {
         let mut configuration = Configuration::new(self.alloc, scopes);
-        let mut steps = Steps::new();
-        match machine.run(body, &mut configuration, &mut steps) {
+        let mut steps = Steps::<L>::new(blank);
+        match machine.run::<L>(body, &mut configuration, &mut steps) {
             Ok(()) => Ok(configuration.texts.into_string()),
             Err(error) => Err(error),
         }

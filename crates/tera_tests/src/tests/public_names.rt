@@ -3,10 +3,9 @@ use super::cases::is_text;
 use crate::own::{Holding, LacksMemory, saying};
 use std::alloc::Global;
 use tera::{
-    ArgFromValue, CallerObjects, Chunk, Compiler, Context, Delimiters, ErrorKind, ForLoop,
-    Instruction, Key, Kwargs, Map, Name, ParserOutput, State, Steps, StoredFilter, StoredFunction,
-    StringInput, Template, Tera, TeraResult, Value, ValueKind, VirtualMachine, escape_html, number,
-    parse,
+    ArgFromValue, CallerObjects, Chunk, Compiler, Context, Delimiters, ErrorKind, ForLoop, Key,
+    Kwargs, Map, Name, ParserOutput, State, StoredFilter, StoredFunction, StringInput, Template,
+    Tera, TeraResult, Value, ValueKind, VirtualMachine, escape_html, number, parse,
 };
 
 /// What the value is told to be, and what it is read as.
@@ -239,16 +238,10 @@ fn loops_go_over_letters(rt: HostRuntime) {
     assert!(rt; is_true(is_looped(rt.alloc())));
 }
 
-/// Whether the code is one instruction that puts out a text.
-fn puts_out(chunk: &Chunk) -> bool {
-    let mut steps = Steps::new();
-    match chunk.get(0, &mut steps) {
-        Some(instruction) => {
-            matches!(instruction.unpack(), Instruction::WriteText(_))
-                && chunk.get(1, &mut steps).is_none()
-        }
-        None => false,
-    }
+/// Whether the code is one instruction of this file, which calls and takes nothing.
+fn is_plain(chunk: &Chunk) -> bool {
+    let (callee, target) = (chunk.callee_at(0), chunk.target_at(0));
+    chunk.len() == 1 && chunk.file() == "t" && callee.is_none() && target.is_none()
 }
 
 fn is_compiled(alloc: Global, output: &ParserOutput<'_>) -> TeraResult<bool> {
@@ -259,7 +252,7 @@ fn is_compiled(alloc: Global, output: &ParserOutput<'_>) -> TeraResult<bool> {
         Some(node) => again.compile_node(node)?,
         None => return Ok(false),
     }
-    Ok(puts_out(&compiler.into_chunk()) && puts_out(&again.into_chunk()))
+    Ok(is_plain(&compiler.into_chunk()) && is_plain(&again.into_chunk()))
 }
 
 fn is_parsed(alloc: Global) -> TeraResult<bool> {

@@ -113,7 +113,7 @@ module _ (look_up : Name → Val) where
           ∙ h
 
   ascending : (ns : List Name) → IsAscending (found_among look_up ns)
-  ascending [] = named_ascend [] [] refl
+  ascending [] = let none : Named Val = [] in named_ascend {A = Val} none none refl
   ascending (n ∷ ns) = next (is_undefined (look_up n)) (ascending ns)
     where
       next : (b : Bool) → IsAscending (found_among look_up ns) → IsAscending (cond b (found_among look_up ns) (put n (look_up n) (found_among look_up ns)))

@@ -1,5 +1,5 @@
 // Pages of which the text is fixed, for any text of the user.
-ghost use Rattle.std.specs.Prelude.{◌≡◌, Ok, IfErr, IfOk, codes, string_bytes};
+ghost use Rattle.std.specs.Prelude.{◌≡◌, Ok, IfErr, IfOk, true, codes, string_bytes};
 ghost use Rattle.tera.specs.FixedText.{TextHasOwnMarkup};
 ghost use Rattle.tera.specs.Prelude.{Gives, GivesOneOf, Lacks};
 ghost use Rattle.tera.specs.Registry.{new_registry};

@@ -4,25 +4,143 @@ pub mod Rendering
 pub mod Configuring
 pub mod Lending
 pub mod Registering
--- what its contracts speak of besides: a caller names it from here, and lists `tera` alone
+pub mod FixedText
+pub mod PageLaws
+-- What its contracts and those of the types that it passes on speak of besides: a caller names it
+-- from here, and lists `tera` alone. Where two crates have a file of one name, it is told apart by
+-- what it is about.
+
+-- answers and faults
 pub use Rattle.tera_errors.specs.Site
 pub use Rattle.tera_errors.specs.Fault
 pub use Rattle.tera_errors.specs.Answer
 pub use Rattle.tera_errors.specs.Report
+-- trees, and the texts that spell them
 pub use Rattle.tera_syntax_tree.specs.Delimiters
-pub use Rattle.tera_values.specs.Val
+pub use Rattle.tera_syntax_tree.specs.Tree
+pub use Rattle.tera_syntax_tree.specs.View as TreeView
+pub use Rattle.tera_syntax_tree.specs.Blocks
+pub use Rattle.tera_syntax_tree.specs.Definitions
+pub use Rattle.tera_syntax_tree.specs.Includes
+pub use Rattle.tera_syntax_tree.specs.Depth
+pub use Rattle.tera_syntax_tree.specs.Inside
+pub use Rattle.tera_syntax.specs.Grammar
+pub use Rattle.tera_syntax.specs.Spells
+pub use Rattle.tera_syntax.specs.Reads
+pub use Rattle.tera_syntax.specs.TreeRead
+pub use Rattle.tera_syntax.specs.Laws as SyntaxLaws
+pub use Rattle.tera_variables.specs.Free
+pub use Rattle.tera_variables.specs.Sets
+-- values, contexts and arguments
+pub use Rattle.tera_values_data.specs.Alphabet
+pub use Rattle.tera_values_data.specs.Val
+pub use Rattle.tera_values_data.specs.Coding
+pub use Rattle.tera_values_data.specs.View as ValueView
+pub use Rattle.tera_values_data.specs.Shape
+pub use Rattle.tera_values_data.specs.Falls
+pub use Rattle.tera_values_data.specs.Keys
+pub use Rattle.tera_values_data.specs.Index
+pub use Rattle.tera_values_data.specs.Access
+pub use Rattle.tera_values_data.specs.Items
+pub use Rattle.tera_values_data.specs.Paths
+pub use Rattle.tera_values_data.specs.Slices
+pub use Rattle.tera_values_data.specs.Order
+pub use Rattle.tera_values_data.specs.Finite
+pub use Rattle.tera_values_data.specs.Printed
+pub use Rattle.tera_values_data.specs.Escape
+pub use Rattle.tera_values_data.specs.Laws as OrderLaws
+pub use Rattle.tera_values_data.specs.Promises
 pub use Rattle.tera_values.specs.Named
+pub use Rattle.tera_values.specs.Names
+pub use Rattle.tera_values.specs.Naming
+pub use Rattle.tera_values.specs.Contexts
+pub use Rattle.tera_values.specs.Arguments
 pub use Rattle.tera_values.specs.Number
-pub use Rattle.tera_values.specs.Escape
+pub use Rattle.tera_values.specs.Division
+-- what is built in, and operators
+pub use Rattle.tera_built_ins.specs.Escaping
+pub use Rattle.tera_built_ins.specs.Filters
+pub use Rattle.tera_built_ins.specs.TestTable
+pub use Rattle.tera_built_ins.specs.FunctionTable
+pub use Rattle.tera_built_ins.specs.Tests
+pub use Rattle.tera_built_ins.specs.Laws as BuiltInLaws
 pub use Rattle.tera_operators.specs.Operand
+pub use Rattle.tera_operators.specs.Accesses
+pub use Rattle.tera_operators.specs.Operators
+pub use Rattle.tera_operators.specs.Literals
+pub use Rattle.tera_operators.specs.Entries
+pub use Rattle.tera_operators.specs.Calls
+-- states, and the objects of the caller
+pub use Rattle.tera_state.specs.Topmost
+pub use Rattle.tera_state.specs.Items as LoopItems
+pub use Rattle.tera_state.specs.Lending as LoopLending
+pub use Rattle.tera_state.specs.Opened
+pub use Rattle.tera_state.specs.Scope
+pub use Rattle.tera_state.specs.Scopes
+pub use Rattle.tera_state.specs.Found
+pub use Rattle.tera_state.specs.Rendered
 pub use Rattle.tera_state.specs.View
 pub use Rattle.tera_objects.specs.Engine
+pub use Rattle.tera_objects.specs.Calling
+pub use Rattle.tera_objects.specs.Called
+pub use Rattle.tera_objects.specs.Table
+pub use Rattle.tera_objects.specs.Taken
 pub use Rattle.tera_objects.specs.Kept
+pub use Rattle.tera_objects.specs.Moving
+pub use Rattle.tera_objects.specs.Stored
+pub use Rattle.tera_objects.specs.Laws as ObjectLaws
+-- components
+pub use Rattle.tera_components.specs.Context as ComponentContext
 pub use Rattle.tera_components.specs.Definition
-pub use Rattle.tera_meaning.specs.Accepted
-pub use Rattle.tera_meaning.specs.Components
+-- what templates mean, and where the markup of a rendering comes from
+pub use Rattle.tera_meaning.specs.Run
+pub use Rattle.tera_meaning.specs.Here
+pub use Rattle.tera_meaning.specs.Meaning
+pub use Rattle.tera_meaning.specs.Registry as MeaningRegistry
 pub use Rattle.tera_meaning.specs.Resolve
+pub use Rattle.tera_meaning.specs.Lineage
+pub use Rattle.tera_meaning.specs.Components
+pub use Rattle.tera_meaning.specs.Known
+pub use Rattle.tera_meaning.specs.Accepted
+pub use Rattle.tera_meaning.specs.Adding
+pub use Rattle.tera_meaning.specs.Whole
+pub use Rattle.tera_meaning.specs.Rendering as MeaningRendering
 pub use Rattle.tera_meaning.specs.Variables
+pub use Rattle.tera_meaning.specs.Laws as MeaningLaws
+pub use Rattle.tera_meaning.specs.Circles
+pub use Rattle.tera_meaning.specs.BodyLaws
+pub use Rattle.tera_marks.specs.Origin
+pub use Rattle.tera_marks.specs.Sources
+pub use Rattle.tera_marks.specs.Renderings
+pub use Rattle.tera_marks.specs.Foreign
+-- code, the templates that are kept, and the machine
+pub use Rattle.tera_code.specs.Constant
+pub use Rattle.tera_code.specs.Packed
+pub use Rattle.tera_code.specs.Listing
+pub use Rattle.tera_code.specs.Code
+pub use Rattle.tera_code.specs.Blocks as CodeBlocks
+pub use Rattle.tera_code.specs.Asked
+pub use Rattle.tera_code.specs.Printing as CodePrinting
+pub use Rattle.tera_code.specs.Called as CodeCalled
+pub use Rattle.tera_code.specs.Targets
 pub use Rattle.tera_registry.specs.Batch
 pub use Rattle.tera_registry.specs.Templates
+pub use Rattle.tera_registry.specs.Order as RegistryOrder
+pub use Rattle.tera_registry.specs.Kept as RegistryKept
+pub use Rattle.tera_registry.specs.Components as RegistryComponents
+pub use Rattle.tera_registry.specs.Places
+pub use Rattle.tera_registry.specs.Choices
+pub use Rattle.tera_registry.specs.Needs
+pub use Rattle.tera_registry.specs.Links
+pub use Rattle.tera_registry.specs.Takes
+pub use Rattle.tera_registry.specs.Bodies
+pub use Rattle.tera_registry.specs.Numbers
+pub use Rattle.tera_registry.specs.References
+pub use Rattle.tera_registry.specs.HandedOut
+pub use Rattle.tera_machine.specs.Layers
+pub use Rattle.tera_machine.specs.Config
+pub use Rattle.tera_machine.specs.OpenThings
+pub use Rattle.tera_machine.specs.Subject
+pub use Rattle.tera_machine.specs.Wanted
+pub use Rattle.tera_machine.specs.Bodies as MachineBodies
 pub mod Prelude

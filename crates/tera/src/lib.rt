@@ -3,27 +3,25 @@
 
 pub mod components;
 pub mod engine;
+pub mod laws;
+pub mod page_laws;
 pub mod registering;
 mod rendering;
 pub mod templates;
 mod texts;
 
+// The engine.
 pub use engine::{Tera, TeraOver};
-pub use tera_built_ins::EscapeFn;
-pub use tera_code::{
-    CallKind, Callee, Chunk, Comparison, Compiler, Constant, Instruction, Keys, LentInstruction,
-    LentName, Names, Spreads, Steps, Text,
+// Values, names and errors.
+pub use tera_errors::lacking;
+pub use tera_values::{
+    ArgFromValue, Context, Counter, Error, ErrorKind, Key, Kwargs, Map, Name, ReportError, Shape,
+    Sought, Span, StringInput, TeraResult, Value, ValueKind, WritesValues, escape_html, escape_xml,
+    number,
 };
+pub use tera_values_data::copy_items;
+// Templates as trees, and components.
 pub use tera_components::{ComponentArg, ComponentDefinition, ComponentInfo};
-pub use tera_machine::{Configuration, Ended, LoopPlace, Texts, VirtualMachine};
-pub use tera_objects::{Call, CallerObjects, Objects, ObjectsOver, OwnFilters, Table};
-pub use tera_operators::{Entries, LentOperand, Operand};
-pub use tera_registry::{
-    Body, Component, Defined, Definer, Definers, FoundTemplate, Templates, TextTable,
-};
-pub use tera_state::{
-    Filter, ForLoop, ForLoopIterator, Found, Function, Stack, State, StateOver, StringInput, Test,
-};
 pub use tera_syntax::parse;
 pub use tera_syntax_tree::{
     Applied, Argument, ArgumentType, BinaryOperator, Bounds, Called, Captured, Choice, Collected,
@@ -31,7 +29,27 @@ pub use tera_syntax_tree::{
     LiteralKey, Node, Operands, OwnedKey, Parameter, ParserOutput, Quoted, SectionFilter,
     Signature, Sliced,
 };
-pub use tera_values::{
-    ArgFromValue, Context, Counter, Error, ErrorKind, Key, Kwargs, Map, Name, ReportError, Shape,
-    Sought, Span, TeraResult, Value, ValueKind, escape_html, escape_xml, number,
+// What a template calls, and the state that it sees.
+pub use tera_built_ins::{BuiltInFilter, BuiltInFunction, BuiltInTest, EscapeFn, Escaping};
+pub use tera_objects::{
+    Call, CallerObjects, Objects, ObjectsOver, OwnFilters, Standard, Stored, StoredFilter,
+    StoredFunction, StoredTest, Table,
+};
+pub use tera_operators::{Entries, LentOperand, Operand};
+pub use tera_state::{
+    Filter, ForLoop, ForLoopIterator, Found, Function, Implicits, Stack, State, StateOver, Test,
+    write_value,
+};
+// Code, templates by name, and what runs.
+pub use tera_code::{
+    CallKind, Callee, Chunk, Comparison, Compiler, Constant, Instruction, Keys, LentInstruction,
+    LentName, Names, Spreads, Steps, Target, Text, compiled,
+};
+pub use tera_machine::{
+    Asked, AskedComponent, AskedTemplate, Configuration, Ended, LoopPlace, Numbered, OpenBlock,
+    OpenBlocks, OpenThings, Texts, VirtualMachine, Wanted,
+};
+pub use tera_registry::{
+    Body, Code, Component, Defined, Definer, Definers, FoundTemplate, Template, Templates,
+    TextTable,
 };

@@ -5,15 +5,13 @@ use Rattle.std.specs.Ordering.{int_eq}
 use Rattle.tera_errors.specs.Fault.{Fault}
 use Rattle.tera_values.specs.Val.{Val, ValOf, none, bool, text, bytes, array, map}
 use Rattle.tera_values.specs.Alphabet.{Alphabet}
-use Rattle.tera_values.specs.Access.{is_undefined, int_of, text_of}
+use Rattle.tera_values.specs.Access.{is_undefined, int_of}
 use Rattle.tera_values.specs.Slices.{contains}
 use Rattle.tera_values.specs.Named.{Named}
+pub use Rattle.tera_values.specs.Arguments.{is_text}
 use Rattle.tera_built_ins.specs.Arguments.{◌▸◌, as_integer, as_text, as_any, needed}
 
 -- the kinds
-abbrev pub is_text : Val → Bool
-is_text v = is_some (text_of v)
-
 abbrev pub is_integer : Val → Bool
 is_integer v = is_some (int_of v)
 

@@ -11,9 +11,6 @@ use Rattle.tera_syntax_tree.specs.Tree.{Parameter, Signature}
 use Rattle.tera_values.specs.Alphabet.{plain}
 use Rattle.tera_values.specs.Val.{Val}
 use Rattle.tera_values.specs.Named.{Named, put}
-use Rattle.tera_state.specs.Scope.{look_implicit}
-use Rattle.tera_state.specs.Scopes.{around_of, variables_of}
-use Rattle.tera_state.specs.declared.scopes.Scopes.{Scopes}
 use Rattle.tera_components.specs.Context.{parameter_value_in, with_parameters_in, with_rest, with_body, others, component_context}
 use Rattle.tera_components.specs.Definition.{Formal, Definition, formal_of, definition_of, left_over, formal_value, with_formals, or_message, Binds}
 
@@ -78,7 +75,7 @@ module _ (look : Name → Val) (given : List (Name × Val)) where
       ∙ ap (with_formals look given rest) (sym (is ∙ ap (λ n. put n v context) named))
 
 -- the answer of a call that gives the context by what is kept
-pub gives_called : (r : Result (Named Val) SeenError) (d : Definition) (given : List (Name × Val)) (body : Option Val) (scopes : Scopes) →
-    Gives (λ (c : Named Val). c) r (or_message (call_context d given body (λ n. look_implicit n (around_of scopes) (variables_of scopes)))) → Binds d given body scopes r
-gives_called r d given body scopes h s is =
-    subst (λ (o : Option (Named Val)). Gives (λ (c : Named Val). c) r (or_message o)) (ap (λ e. call_context e given body (λ n. look_implicit n (around_of scopes) (variables_of scopes))) is ∙ call_context-is s given body _) h
+pub gives_called : (r : Result (Named Val) SeenError) (d : Definition) (given : List (Name × Val)) (body : Option Val) (look : Name → Val) →
+    Gives (λ (c : Named Val). c) r (or_message (call_context d given body look)) → Binds d given body look r
+gives_called r d given body look h s is =
+    subst (λ (o : Option (Named Val)). Gives (λ (c : Named Val). c) r (or_message o)) (ap (λ e. call_context e given body look) is ∙ call_context-is s given body look) h

@@ -14,9 +14,6 @@ use Rattle.tera_values.specs.Val.{ValOf, Val, KeyVal, kbool, kint, ktext}
 use Rattle.tera_values.specs.Coding.{val_coding}
 use Rattle.tera_values.specs.Access.{find, insert_pair}
 use Rattle.tera_values.specs.Named.{Named, at_name, put}
-use Rattle.tera_state.specs.Scope.{look_implicit}
-use Rattle.tera_state.specs.Scopes.{around_of, variables_of}
-use Rattle.tera_state.specs.declared.scopes.Scopes.{Scopes}
 use Rattle.tera_components.specs.Context.{literal_value, fitting, looked_up, component_context}
 
 -- a parameter whose default is a value
@@ -129,12 +126,9 @@ module _ (look : Name → Val) (given : List (Name × Val)) where
       option_and_then (λ v. with_formals fs (put f.name v context)) (formal_value f)
 
 -- how a call ends that binds these arguments and at will a body, where implicit parameters are
--- looked up in these scopes: with the context that the signature means, or a fault
-abbrev pub Binds : Definition → List (Name × Val) → Option Val → Scopes
+-- looked up like this: with the context that the signature means, or a fault
+abbrev pub Binds : Definition → List (Name × Val) → Option Val → (Name → Val)
     → Result (Named Val) SeenError → Type 0
-Binds d given body scopes answer =
+Binds d given body look answer =
     (s : Signature) → d ≡ definition_of s →
-    Gives (λ c. c) answer
-    (or_message
-    (component_context s given body
-    (λ n. look_implicit n (around_of scopes) (variables_of scopes))))
+    Gives (λ c. c) answer (or_message (component_context s given body look))

@@ -3,7 +3,6 @@ ghost use Rattle.std.specs.Prelude.{◌≡◌, Ok, option_copied};
 ghost use Rattle.tera_errors.specs.Prelude.{Gives};
 ghost use Rattle.tera_syntax_tree.specs.Prelude.{parameter_of};
 ghost use Rattle.tera_values.specs.Prelude.{at_name};
-ghost use Rattle.tera_state.specs.Prelude.{look_implicit, around_of, variables_of};
 ghost use Rattle.tera_components.specs.Context.{is_of_type, looked_up};
 ghost use Rattle.tera_components.specs.Definition.{formal_of, named_arguments, offered, formal_value, or_message};
 
@@ -12,7 +11,7 @@ use crate::literals::value_from;
 use std::alloc::Global;
 use std::marker::Model;
 use tera_operators::Entries;
-use tera_state::Scopes;
+use tera_state::Implicits;
 use tera_syntax_tree::{ArgumentType, Parameter};
 use tera_values::{Name, Shape, TeraResult, Value};
 
@@ -99,11 +98,10 @@ impl ComponentArg {
         })
     }
 
-    // What an implicit parameter finds in the callers.
-    fn look_up(&self, alloc: Global, caller: &Scopes<'_>) -> TeraResult<Option<Value>>
-        ensures { Gives (λ o. o) result (Ok (looked_up
-            (λ n. look_implicit n (around_of caller.now) (variables_of caller.now))
-            self.now.is_implicit self.now.name)) }
+    // What an implicit parameter finds in the caller.
+    fn look_up<C: Implicits>(&self, alloc: Global, caller: &C) -> TeraResult<Option<Value>>
+        ensures { Gives (λ o. o) result
+            (Ok (looked_up (C.implicit caller.now) self.now.is_implicit self.now.name)) }
     {
         if !self.is_implicit {
             return Ok(None);
@@ -116,15 +114,14 @@ impl ComponentArg {
     }
 
     // What is given, undefined too; else what is looked up; else the default.
-    fn offer(
+    fn offer<C: Implicits>(
         &self,
         alloc: Global,
         given: &Entries<'_>,
-        caller: &Scopes<'_>,
+        caller: &C,
     ) -> TeraResult<Option<Value>>
-        ensures { Gives (λ o. o) result (Ok (offered
-            (λ n. look_implicit n (around_of caller.now) (variables_of caller.now))
-            (named_arguments given.now) self.now)) }
+        ensures { Gives (λ o. o) result
+            (Ok (offered (C.implicit caller.now) (named_arguments given.now) self.now)) }
     {
         if let Some(value) = argument_at(given, self.name.as_str()) {
             return Ok(Some(value.try_clone()?));
@@ -139,16 +136,15 @@ impl ComponentArg {
     }
 
     /// The value that the parameter takes in a call of this component; a `Message` where there is none, or one of another type.
-    pub(crate) fn value(
+    pub(crate) fn value<C: Implicits>(
         &self,
         alloc: Global,
         component: &str,
         given: &Entries<'_>,
-        caller: &Scopes<'_>,
+        caller: &C,
     ) -> TeraResult<Value>
-        ensures { Gives (λ v. v) result (or_message (formal_value
-            (λ n. look_implicit n (around_of caller.now) (variables_of caller.now))
-            (named_arguments given.now) self.now)) }
+        ensures { Gives (λ v. v) result (or_message
+            (formal_value (C.implicit caller.now) (named_arguments given.now) self.now)) }
     {
         let value = match self.offer(alloc, given, caller)? {
             Some(value) => value,

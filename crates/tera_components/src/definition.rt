@@ -3,7 +3,6 @@ ghost use Rattle.std.specs.Prelude.{◌≡◌, Ok, List, [], OnOk, IfErr};
 ghost use Rattle.tera_errors.specs.Prelude.{Gives, Lacks, Name};
 ghost use Rattle.tera_syntax_tree.specs.Prelude.{signature_of, is_among};
 ghost use Rattle.tera_values.specs.Prelude.{Val, key_view, text_keys};
-ghost use Rattle.tera_state.specs.Prelude.{look_implicit, around_of, variables_of};
 ghost use Rattle.tera_components.specs.Context.{with_rest, with_body};
 ghost use Rattle.tera_components.specs.Definition.{definition_of, formal_names, named_arguments, left_over, is_left, kept_over, with_formals, or_message, Binds};
 
@@ -12,7 +11,7 @@ use crate::faults;
 use std::alloc::Global;
 use std::marker::Model;
 use tera_operators::Entries;
-use tera_state::Scopes;
+use tera_state::Implicits;
 use tera_syntax_tree::Signature;
 use tera_values::{Context, Key, Kwargs, Map, Name, TeraResult, Value};
 
@@ -138,15 +137,15 @@ impl ComponentDefinition {
     }
 
     // Puts the values of the parameters at their names.
-    fn put_arguments(
+    fn put_arguments<C: Implicits>(
         &self,
         alloc: Global,
         given: &Entries<'_>,
-        caller: &Scopes<'_>,
+        caller: &C,
         context: &mut Kwargs,
     ) -> TeraResult<()>
-        ensures { Gives (λ _. context.new) result (or_message (with_formals
-            (λ n. look_implicit n (around_of caller.now) (variables_of caller.now))
+        ensures { Gives (λ _. context.new) result
+            (or_message (with_formals (C.implicit caller.now)
             (named_arguments given.now) self.now.formals context.old)) }
     {
         for argument in self.arguments.iter() {
@@ -172,15 +171,15 @@ impl ComponentDefinition {
     }
 
     /// What the body of a call with these arguments reads; a `Message` where they do not fit. A key that is no text names no
-    /// argument.
-    pub fn bind(
+    /// argument. Implicit parameters are looked up in the caller.
+    pub fn bind<C: Implicits>(
         &self,
         alloc: Global,
         given: &Entries<'_>,
-        caller: &Scopes<'_>,
+        caller: &C,
         body: Option<Value>,
     ) -> TeraResult<Kwargs>
-        ensures { Binds self.now (named_arguments given.now) body caller.now result }
+        ensures { Binds self.now (named_arguments given.now) body (C.implicit caller.now) result }
     {
         let others = self.others(alloc, given)?;
         let mut context = begun(alloc, self.arguments.len(), body)?;
@@ -190,14 +189,14 @@ impl ComponentDefinition {
     }
 
     /// The same where the arguments are values by name, in byte order of these.
-    pub fn bind_by_name(
+    pub fn bind_by_name<C: Implicits>(
         &self,
         alloc: Global,
         given: &Context,
-        caller: &Scopes<'_>,
+        caller: &C,
         body: Option<Value>,
     ) -> TeraResult<Kwargs>
-        ensures { Binds self.now given.now body caller.now result }
+        ensures { Binds self.now given.now body (C.implicit caller.now) result }
     {
         let given = given.to_map()?;
         let entries = Entries::of_map(&given);
@@ -205,14 +204,14 @@ impl ComponentDefinition {
     }
 
     /// The same as a context, for callers who keep it.
-    pub fn build_context(
+    pub fn build_context<C: Implicits>(
         &self,
         alloc: Global,
         given: &Map,
-        caller: &Scopes<'_>,
+        caller: &C,
         body: Option<Value>,
     ) -> TeraResult<Context>
-        ensures { Binds self.now (named_arguments given.now) body caller.now result }
+        ensures { Binds self.now (named_arguments given.now) body (C.implicit caller.now) result }
     {
         self.bind(alloc, &Entries::of_map(given), caller, body)?
             .to_context()

@@ -61,7 +61,7 @@ each-in : (P : ℕ → Type 0) (ts : List Text) → ((b : ℕ) → IsTrue (stand
 each-in P ts h = all-more (IsPart ts) (AllByRecursion P) (λ t k. all-more (λ b. IsTrue (list_any (nat_eq b) t)) P (λ b i. h b (k b i)) t (bytes-in t)) ts (texts-in ts)
 
 module _ (s : Sources) where
-  abbrev came : Claim
+  abbrev pub came : Claim
   came = record { holds = ComesFrom s; of_escaped = λ b h. h; of_made = λ b h. h }
 
   module _ (name : Name) where
@@ -85,7 +85,7 @@ module _ (s : Sources) where
   all-bodies [] h k = tt
   all-bodies (body ∷ bs) h k = (record { texts = h.0; calls_hold = k.0 }, all-bodies bs h.1 k.1)
 
-  came-holds : SourcesHold came s
+  pub came-holds : SourcesHold came s
   came-holds = record {
     bodies_hold =
         all-bodies s.bodies (all-each (TextHolds came template) contents s.bodies (each-in (λ b. ComesFrom s (b, template)) (flat_map contents s.bodies) (λ b i. i)))
@@ -93,7 +93,7 @@ module _ (s : Sources) where
     values_hold = all-each (TextHolds came marked_safe) safe_texts s.values (each-in (λ b. ComesFrom s (b, marked_safe)) (flat_map safe_texts s.values) (λ b i. in_value i));
   }
 
-  all-come : {t : List Marked} {u : List ℕ} → Each (Bears came true) t u → AllByRecursion (ComesFrom s) t
+  pub all-come : {t : List Marked} {u : List ℕ} → Each (Bears came true) t u → AllByRecursion (ComesFrom s) t
   all-come none = tt
   all-come (more r rs) = (r.claimed, all-come rs)
 

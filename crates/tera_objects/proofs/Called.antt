@@ -1,7 +1,7 @@
 -- Calls with values of bytes.
-use Rattle.std.proofs.Common.{◌≡◌, ◌||◌, is_some, Bool, [], ◌∷◌, Option, Some, None, option_map, Result, refl, sym, ap, ap₂, subst, ◌∙◌}
-use Rattle.tera_errors.specs.Fault.{Fault}
-use Rattle.tera_errors.specs.Answer.{SeenError, Gives}
+use Rattle.std.proofs.Common.{◌≡◌, ◌||◌, is_some, Bool, false, [], ◌∷◌, Option, Some, None, option_map, Result, Err, refl, sym, ap, ap₂, subst, ◌∙◌}
+use Rattle.tera_errors.specs.Fault.{Fault, message}
+use Rattle.tera_errors.specs.Answer.{SeenError, Says, Tells, Gives}
 use Rattle.tera_values.specs.Alphabet.{plain}
 use Rattle.tera_errors.specs.Site.{Name, Text}
 use Rattle.tera_values.specs.Named.{Named, at_name}
@@ -10,16 +10,16 @@ use Rattle.tera_built_ins.specs.declared.filter.BuiltInFilter.{BuiltInFilter}
 use Rattle.tera_built_ins.specs.declared.test.BuiltInTest.{BuiltInTest}
 use Rattle.tera_built_ins.specs.declared.function.BuiltInFunction.{BuiltInFunction}
 use Rattle.tera_built_ins.specs.Escaping.{escape_or_html}
-use Rattle.tera_built_ins.specs.Filters.{filter_named, filter_in, filtered_in}
-use Rattle.tera_built_ins.specs.TestTable.{test_named, test_in, tested_in}
-use Rattle.tera_built_ins.specs.FunctionTable.{function_named, function_in, called_in}
 use Rattle.tera_state.specs.Scopes.{around_of, variables_of}
-use Rattle.tera_state.specs.View.{View, NamedFilters, view_at, filters_left, escaping_in}
+use Rattle.tera_state.specs.View.{View, NamedFilters, view_at, filters_left}
 use Rattle.tera_objects.specs.Calling.{answer_of, all_bare, filter_called, test_called, function_called}
 use Rattle.tera_objects.specs.Called.{seen, filtered, tested, called}
 use Rattle.tera_objects.specs.declared.call.Call.{Call}
-use Rattle.tera_objects.specs.Engine.{Engine, OwnFilter, OwnTest, OwnFunction, own_or_built_in}
-use Rattle.tera_objects.specs.Kept.{each}
+use Rattle.tera_objects.specs.Engine.{Engine, OwnFilter, OwnTest, OwnFunction, Callee, own, built_in, own_or_built_in, filter_at, test_at, function_at}
+use Rattle.tera_objects.specs.Kept.{Meanings, each, engine_of}
+use Rattle.tera_objects.specs.Stored.{callee_of, filter_answer, test_answer, function_answer, is_marked}
+use Rattle.tera_objects.specs.declared.stored.Stored.{Stored}
+use Rattle.tera_objects.specs.declared.stored.Stored.TheVariants.{BuiltIn, Own}
 use Rattle.tera_objects.specs.Table.{listed}
 use Rattle.tera_objects.specs.declared.over.ObjectsOver.{ObjectsOver}
 use Rattle.tera_objects.proofs.Each.{at-each, is_some-map}
@@ -31,19 +31,24 @@ pub all_bare-plain : (given : Named Val) → all_bare plain given ≡ given
 all_bare-plain [] = refl
 all_bare-plain (e ∷ es) = ap (λ (l : Named Val). e ∷ l) (all_bare-plain es)
 
--- where the caller has nothing of the name
-module _ (view : View) (given : Named Val) where
-  pub built_in-filter : (v : Val) (f : Option BuiltInFilter) → filter_called plain view (own_or_built_in None f) v given ≡ filter_in plain (escaping_in view) f v given
-  built_in-filter v None = refl
-  built_in-filter v (Some f) = refl
+-- what is stored answers what is called
+bare-given : {A : Type 0} (f : Named Val → A) (given : Named Val) → f given ≡ f (all_bare plain given)
+bare-given f given = ap f (sym (all_bare-plain given))
 
-  pub built_in-test : (v : Val) (t : Option BuiltInTest) → test_called plain view (own_or_built_in None t) v given ≡ test_in plain t v given
-  built_in-test v None = refl
-  built_in-test v (Some t) = refl
+module _ {X : Type 0} (view : View) (given : Named Val) where
+  pub filter-answers : (filter : X → OwnFilter) (f : Stored BuiltInFilter X) (v : Val)
+      → answer_of (is_marked (λ x. (filter x).safe) f) (filter_answer (λ x. (filter x).meaning) view f v given) ≡ filter_called plain view (Some (callee_of filter f)) v given
+  filter-answers filter (BuiltIn b) v = refl
+  filter-answers filter (Own x) v = bare-given (λ l. answer_of (filter x.now).safe ((filter x.now).meaning v l view)) given
 
-  pub built_in-function : (f : Option BuiltInFunction) → function_called plain view (own_or_built_in None f) given ≡ function_in plain f given
-  built_in-function None = refl
-  built_in-function (Some f) = refl
+  pub test-answers : (test : X → OwnTest) (t : Stored BuiltInTest X) (v : Val) → test_answer (λ x. (test x).meaning) view t v given ≡ test_called plain view (Some (callee_of test t)) v given
+  test-answers test (BuiltIn b) v = refl
+  test-answers test (Own x) v = bare-given (λ l. (test x.now).meaning v l view) given
+
+  pub function-answers : (function : X → OwnFunction) (f : Stored BuiltInFunction X)
+      → answer_of (is_marked (λ x. (function x).safe) f) (function_answer (λ x. (function x).meaning) view f given) ≡ function_called plain view (Some (callee_of function f)) given
+  function-answers function (BuiltIn b) = refl
+  function-answers function (Own x) = bare-given (λ l. answer_of (function x.now).safe ((function x.now).meaning l view)) given
 
 -- whether a name stands for something
 pub either-there : {O B : Type 0} (o : Option O) (b : Option B) → is_some (own_or_built_in o b) ≡ (is_some b || is_some o)
@@ -56,6 +61,25 @@ pub known-by : {A O B : Type 0} (meaning : A → O) (n : Name) (here : Named A) 
 known-by meaning n here b =
     either-there (at_name n (each meaning here)) b
     ∙ ap (λ t. is_some b || t) (ap is_some (at-each meaning n here) ∙ is_some-map meaning (at_name n here))
+
+-- a refusal in words
+told-says : {Y : Type 0} (e : SeenError) (meant : Result Y Fault) → Tells e message → Err message ≡ meant → Says e meant
+told-says None meant told is = tt
+told-says (Some fault) meant told is = sym is ∙ ap Err (sym told)
+
+-- what a name stands for
+without-own : {O B : Type 0} (b : Option B) → own_or_built_in {O = O} None b ≡ option_map built_in b
+without-own None = refl
+without-own (Some x) = refl
+
+module _ {A O B : Type 0} (meaning : A → O) (n : Name) (here : Named A) (b : Option B) where
+  pub finds-own : (a : A) → Some a ≡ at_name n here → Some (own (meaning a)) ≡ own_or_built_in (at_name n (each meaning here)) b
+  finds-own a is = ap (λ (o : Option O). own_or_built_in o b) (ap (option_map meaning) is ∙ sym (at-each meaning n here))
+
+  pub finds-built_in : (r : Option B) → r ≡ b → None ≡ at_name n here → option_map built_in r ≡ own_or_built_in (at_name n (each meaning here)) b
+  finds-built_in r same absent =
+      ap (option_map built_in) same ∙ sym (without-own b)
+      ∙ ap (λ (o : Option O). own_or_built_in o b) (ap (option_map meaning) absent ∙ sym (at-each meaning n here))
 
 -- what a call answers
 module _ {E F T G : Type 0} (escape : E → Text → Text) (filter : F → OwnFilter) (o : ObjectsOver E F T G) (call : Call) where
@@ -81,47 +105,72 @@ module _ {E F T G : Type 0} (escape : E → Text → Text) (filter : F → OwnFi
       same
       ∙ ap lent_with (left filter o.filters.taken.items (listed o.filters.table) o.filters.are_taken)
 
-  module _ (v : Val) (result : Result Val SeenError) where
-    pub own-filter : {s : View} {f : F} → s ≡ lent → Some f ≡ at_name call.name.now (listed o.filters.table)
-        → Gives (λ (a : Val). a) result (answer_of (filter f).safe ((filter f).meaning v call.arguments s)) → Gives (λ (a : Val). a) result (filtered (engine_with [] []) call v)
-    own-filter {s} {f} same there gives =
+  -- what the caller has of the other kinds, of which nothing is asked
+  abbrev any_test : T → OwnTest
+  any_test t = record { meaning = λ v given view. Err message }
+
+  abbrev any_function : G → OwnFunction
+  any_function g = record { meaning = λ given view. Err message; safe = false }
+
+  module _ (v : Val) (r : Option (Stored BuiltInFilter F))
+      (found : (m : Meanings E F T G) → option_map (callee_of m.filter) r ≡ filter_at (engine_of m o) call.name.now) where
+    abbrev filter-at : option_map (callee_of filter) r ≡ filter_at (engine_with [] []) call.name.now
+    filter-at = found (record { escape = escape; filter = filter; test = any_test; function = any_function })
+
+    pub filter-stored : (result : Result Val SeenError) {s : View} {f : Stored BuiltInFilter F} {b : Bool} → s ≡ lent → r ≡ Some f → b ≡ is_marked (λ x. (filter x).safe) f
+        → Gives (λ (a : Val). a) result (answer_of b (filter_answer (λ x. (filter x).meaning) s f v call.arguments)) → Gives (λ (a : Val). a) result (filtered (engine_with [] []) call v)
+    filter-stored result {s} {f} same is marks gives =
         subst (λ (meant : Result Val Fault). Gives (λ (a : Val). a) result meant)
-        (ap₂ (λ (w : View) (l : Named Val). answer_of (filter f).safe ((filter f).meaning v l w)) (lent-here same) (sym (all_bare-plain call.arguments))
-        ∙ ap (λ (x : Option OwnFilter). filter_called plain here (own_or_built_in x (filter_named call.name.now)) v call.arguments) (ap (option_map filter) there ∙ sym (at-each filter call.name.now (listed o.filters.table))))
+        (ap₂ (λ (b : Bool) (w : View). answer_of b (filter_answer (λ x. (filter x).meaning) w f v call.arguments)) marks (lent-here same)
+        ∙ filter-answers here call.arguments filter f v
+        ∙ ap (λ (c : Option (Callee OwnFilter BuiltInFilter)). filter_called plain here c v call.arguments) (sym (ap (option_map (callee_of filter)) is) ∙ filter-at))
         gives
 
-    pub no-own-filter : at_name call.name.now (listed o.filters.table) ≡ None → Gives (λ (a : Val). a) result (filtered_in plain (escaping_in here) call.name.now v call.arguments) → Gives (λ (a : Val). a) result (filtered (engine_with [] []) call v)
-    no-own-filter absent gives =
-        subst (λ (meant : Result Val Fault). Gives (λ (a : Val). a) result meant)
-        (sym (ap (λ (x : Option OwnFilter). filter_called plain here (own_or_built_in x (filter_named call.name.now)) v call.arguments) (at-each filter call.name.now (listed o.filters.table) ∙ ap (option_map filter) absent) ∙ built_in-filter here call.arguments v (filter_named call.name.now)))
-        gives
+    pub no-filter : (e : SeenError) → r ≡ None → Tells e message → Says e (filtered (engine_with [] []) call v)
+    no-filter e is told =
+        told-says e (filtered (engine_with [] []) call v) told
+        (ap (λ (c : Option (Callee OwnFilter BuiltInFilter)). filter_called plain here c v call.arguments) (sym (ap (option_map (callee_of filter)) is) ∙ filter-at))
 
-  module _ (test : T → OwnTest) (v : Val) (result : Result Bool SeenError) where
-    pub own-test : {s : View} {t : T} → s ≡ lent → Some t ≡ at_name call.name.now (listed o.tests)
-        → Gives (λ (b : Bool). b) result ((test t).meaning v call.arguments s) → Gives (λ (b : Bool). b) result (tested (engine_with (each test (listed o.tests)) []) call v)
-    own-test {s} {t} same there gives =
+  module _ (test : T → OwnTest) (v : Val) (r : Option (Stored BuiltInTest T))
+      (found : (m : Meanings E F T G) → option_map (callee_of m.test) r ≡ test_at (engine_of m o) call.name.now) where
+    abbrev tests : Named OwnTest
+    tests = each test (listed o.tests)
+
+    abbrev test-at : option_map (callee_of test) r ≡ test_at (engine_with tests []) call.name.now
+    test-at = found (record { escape = escape; filter = filter; test = test; function = any_function })
+
+    pub test-stored : (result : Result Bool SeenError) {s : View} {t : Stored BuiltInTest T} → s ≡ lent → r ≡ Some t
+        → Gives (λ (b : Bool). b) result (test_answer (λ x. (test x).meaning) s t v call.arguments) → Gives (λ (b : Bool). b) result (tested (engine_with tests []) call v)
+    test-stored result {s} {t} same is gives =
         subst (λ (meant : Result Bool Fault). Gives (λ (b : Bool). b) result meant)
-        (ap₂ (λ (w : View) (l : Named Val). (test t).meaning v l w) (lent-here same) (sym (all_bare-plain call.arguments))
-        ∙ ap (λ (x : Option OwnTest). test_called plain here (own_or_built_in x (test_named call.name.now)) v call.arguments) (ap (option_map test) there ∙ sym (at-each test call.name.now (listed o.tests))))
+        (ap (λ (w : View). test_answer (λ x. (test x).meaning) w t v call.arguments) (lent-here same)
+        ∙ test-answers here call.arguments test t v
+        ∙ ap (λ (c : Option (Callee OwnTest BuiltInTest)). test_called plain here c v call.arguments) (sym (ap (option_map (callee_of test)) is) ∙ test-at))
         gives
 
-    pub no-own-test : at_name call.name.now (listed o.tests) ≡ None → Gives (λ (b : Bool). b) result (tested_in plain call.name.now v call.arguments) → Gives (λ (b : Bool). b) result (tested (engine_with (each test (listed o.tests)) []) call v)
-    no-own-test absent gives =
-        subst (λ (meant : Result Bool Fault). Gives (λ (b : Bool). b) result meant)
-        (sym (ap (λ (x : Option OwnTest). test_called plain here (own_or_built_in x (test_named call.name.now)) v call.arguments) (at-each test call.name.now (listed o.tests) ∙ ap (option_map test) absent) ∙ built_in-test here call.arguments v (test_named call.name.now)))
-        gives
+    pub no-test : (e : SeenError) → r ≡ None → Tells e message → Says e (tested (engine_with tests []) call v)
+    no-test e is told =
+        told-says e (tested (engine_with tests []) call v) told
+        (ap (λ (c : Option (Callee OwnTest BuiltInTest)). test_called plain here c v call.arguments) (sym (ap (option_map (callee_of test)) is) ∙ test-at))
 
-  module _ (function : G → OwnFunction) (result : Result Val SeenError) where
-    pub own-function : {s : View} {f : G} → s ≡ lent → Some f ≡ at_name call.name.now (listed o.functions)
-        → Gives (λ (a : Val). a) result (answer_of (function f).safe ((function f).meaning call.arguments s)) → Gives (λ (a : Val). a) result (called (engine_with [] (each function (listed o.functions))) call)
-    own-function {s} {f} same there gives =
+  module _ (function : G → OwnFunction) (r : Option (Stored BuiltInFunction G))
+      (found : (m : Meanings E F T G) → option_map (callee_of m.function) r ≡ function_at (engine_of m o) call.name.now) where
+    abbrev functions : Named OwnFunction
+    functions = each function (listed o.functions)
+
+    abbrev function-at : option_map (callee_of function) r ≡ function_at (engine_with [] functions) call.name.now
+    function-at = found (record { escape = escape; filter = filter; test = any_test; function = function })
+
+    pub function-stored : (result : Result Val SeenError) {s : View} {f : Stored BuiltInFunction G} {b : Bool} → s ≡ lent → r ≡ Some f → b ≡ is_marked (λ x. (function x).safe) f
+        → Gives (λ (a : Val). a) result (answer_of b (function_answer (λ x. (function x).meaning) s f call.arguments)) → Gives (λ (a : Val). a) result (called (engine_with [] functions) call)
+    function-stored result {s} {f} same is marks gives =
         subst (λ (meant : Result Val Fault). Gives (λ (a : Val). a) result meant)
-        (ap₂ (λ (w : View) (l : Named Val). answer_of (function f).safe ((function f).meaning l w)) (lent-here same) (sym (all_bare-plain call.arguments))
-        ∙ ap (λ (x : Option OwnFunction). function_called plain here (own_or_built_in x (function_named call.name.now)) call.arguments) (ap (option_map function) there ∙ sym (at-each function call.name.now (listed o.functions))))
+        (ap₂ (λ (b : Bool) (w : View). answer_of b (function_answer (λ x. (function x).meaning) w f call.arguments)) marks (lent-here same)
+        ∙ function-answers here call.arguments function f
+        ∙ ap (λ (c : Option (Callee OwnFunction BuiltInFunction)). function_called plain here c call.arguments) (sym (ap (option_map (callee_of function)) is) ∙ function-at))
         gives
 
-    pub no-own-function : at_name call.name.now (listed o.functions) ≡ None → Gives (λ (a : Val). a) result (called_in plain call.name.now call.arguments) → Gives (λ (a : Val). a) result (called (engine_with [] (each function (listed o.functions))) call)
-    no-own-function absent gives =
-        subst (λ (meant : Result Val Fault). Gives (λ (a : Val). a) result meant)
-        (sym (ap (λ (x : Option OwnFunction). function_called plain here (own_or_built_in x (function_named call.name.now)) call.arguments) (at-each function call.name.now (listed o.functions) ∙ ap (option_map function) absent) ∙ built_in-function here call.arguments (function_named call.name.now)))
-        gives
+    pub no-function : (e : SeenError) → r ≡ None → Tells e message → Says e (called (engine_with [] functions) call)
+    no-function e is told =
+        told-says e (called (engine_with [] functions) call) told
+        (ap (λ (c : Option (Callee OwnFunction BuiltInFunction)). function_called plain here c call.arguments) (sym (ap (option_map (callee_of function)) is) ∙ function-at))

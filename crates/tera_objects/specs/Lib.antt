@@ -5,5 +5,6 @@ pub mod Table
 pub mod Taken
 pub mod Kept
 pub mod Moving
+pub mod Stored
 pub mod Laws
 pub mod Prelude

@@ -1,13 +1,11 @@
 // What renders asks the caller's boxes.
-use crate::boxes::{
-    built_in_answer, built_in_function_answer, built_in_test_answer, escape_by, filter_answer,
-    function_answer, lent, test_answer, write_by,
-};
+use crate::boxes::{escape_by, lent, write_by};
 use crate::call::Call;
+use crate::marked::marked_if;
 use crate::objects::Objects;
 use crate::over::CallerObjects;
 use std::alloc::{AllocError, Global};
-use tera_values::{Shape, TeraResult, Value};
+use tera_values::{Error, Shape, TeraResult, Value};
 
 impl Objects for CallerObjects {
     ghost use Rattle.tera_objects.specs.Kept.{engine_of};
@@ -54,26 +52,26 @@ impl Objects for CallerObjects {
     }
 
     fn call_filter(&self, call: Call<'_>, value: &Value) -> TeraResult<Value> {
-        let Some(filter) = self.filters.table.get(call.name) else {
-            return built_in_answer(&self.escape, &call, value);
+        let Some(filter) = self.filter(call.name) else {
+            return Err(Error::message(call.alloc, "there is no such filter"));
         };
         let state = lent(self, &call);
-        filter_answer(filter, value, call.arguments, &state)
+        marked_if(filter.is_safe(), filter.call(value, call.arguments, &state))
     }
 
     fn call_test(&self, call: Call<'_>, value: &Value) -> TeraResult<bool> {
-        let Some(test) = self.tests.get(call.name) else {
-            return built_in_test_answer(&call, value);
+        let Some(test) = self.test(call.name) else {
+            return Err(Error::message(call.alloc, "there is no such test"));
         };
         let state = lent(self, &call);
-        test_answer(test, value, call.arguments, &state)
+        test.call(value, call.arguments, &state)
     }
 
     fn call_function(&self, call: Call<'_>) -> TeraResult<Value> {
-        let Some(function) = self.functions.get(call.name) else {
-            return built_in_function_answer(&call);
+        let Some(function) = self.function(call.name) else {
+            return Err(Error::message(call.alloc, "there is no such function"));
         };
         let state = lent(self, &call);
-        function_answer(function, call.arguments, &state)
+        marked_if(function.is_safe(), function.call(call.arguments, &state))
     }
 }

@@ -1,9 +1,10 @@
 // What is registered.
-ghost use Rattle.std.specs.Prelude.{◌≡◌, OnOk, OnErr, IfErr};
+ghost use Rattle.std.specs.Prelude.{◌≡◌, OnOk, OnErr, IfErr, option_map};
 ghost use Rattle.tera_errors.specs.Prelude.{Lacks};
 ghost use Rattle.tera_values.specs.Prelude.{escape_html};
 
 use crate::filters::OwnFilters;
+use crate::stored::Stored;
 use crate::table::Table;
 use std::alloc::Global;
 use tera_built_ins::{BuiltInFilter, BuiltInFunction, BuiltInTest, EscapeFn};
@@ -28,9 +29,10 @@ pub type CallerObjects = ObjectsOver<
 >;
 
 impl<E: Drop, F: Drop, T: Drop, G: Drop> ObjectsOver<E, F, T, G> {
-    ghost use Rattle.tera_objects.specs.Engine.{standard_engine, has_filter, has_test, has_function, with_escape, with_filter, with_test, with_function};
+    ghost use Rattle.tera_objects.specs.Engine.{standard_engine, filter_at, test_at, function_at, has_filter, has_test, has_function, with_escape, with_filter, with_test, with_function};
     ghost use Rattle.tera_objects.specs.Kept.{Meanings, Registers, engine_of};
     ghost use Rattle.tera_objects.specs.Moving.{with_those_of, MovedInPart};
+    ghost use Rattle.tera_objects.specs.Stored.{callee_of};
 
     /// No objects: `escape_html`, and what is built in. Takes no memory.
     pub fn new(alloc: Global) -> ObjectsOver<E, F, T, G>
@@ -101,6 +103,48 @@ impl<E: Drop, F: Drop, T: Drop, G: Drop> ObjectsOver<E, F, T, G> {
         self.filters.move_from(filters)?;
         self.tests.move_from::<BuiltInTest>(tests)?;
         self.functions.move_from::<BuiltInFunction>(functions)
+    }
+
+    /// The filter that the name stands for: one of the caller's goes before what is built in.
+    pub fn filter(&self, name: &str) -> Option<Stored<'_, BuiltInFilter, F>>
+        ensures { (m : Meanings E F T G) → option_map (callee_of m.filter) result
+            ≡ filter_at (engine_of m self.now) name.now }
+    {
+        match self.filters.table.get(name) {
+            Some(own) => Some(Stored::Own(own)),
+            None => match BuiltInFilter::named(name) {
+                Some(filter) => Some(Stored::BuiltIn(filter)),
+                None => None,
+            },
+        }
+    }
+
+    /// The test that the name stands for, as for a filter.
+    pub fn test(&self, name: &str) -> Option<Stored<'_, BuiltInTest, T>>
+        ensures { (m : Meanings E F T G) → option_map (callee_of m.test) result
+            ≡ test_at (engine_of m self.now) name.now }
+    {
+        match self.tests.get(name) {
+            Some(own) => Some(Stored::Own(own)),
+            None => match BuiltInTest::named(name) {
+                Some(test) => Some(Stored::BuiltIn(test)),
+                None => None,
+            },
+        }
+    }
+
+    /// The function that the name stands for, as for a filter.
+    pub fn function(&self, name: &str) -> Option<Stored<'_, BuiltInFunction, G>>
+        ensures { (m : Meanings E F T G) → option_map (callee_of m.function) result
+            ≡ function_at (engine_of m self.now) name.now }
+    {
+        match self.functions.get(name) {
+            Some(own) => Some(Stored::Own(own)),
+            None => match BuiltInFunction::named(name) {
+                Some(function) => Some(Stored::BuiltIn(function)),
+                None => None,
+            },
+        }
     }
 
     /// Whether the name stands for a filter.

@@ -35,5 +35,6 @@ pub use body::Body;
 pub use code::Code;
 pub use components::Component;
 pub use table::{Entry, Table};
+pub use template::Template;
 pub use templates::{Defined, Definer, Definers, FoundTemplate, Templates};
 pub use text::TextTable;

@@ -26,26 +26,26 @@ use tera_values::Name;
 #[derive(Drop)]
 pub struct Template {
     pub name: String,
-    pub text: String,
+    pub(crate) text: String,
     /// The name of the template that it extends, if it does.
-    pub parent: Option<String>,
+    pub(crate) parent: Option<String>,
     /// The code of its nodes.
-    pub body: Rc<Code>,
+    pub(crate) body: Rc<Code>,
     /// Its blocks, each with code of its own.
-    pub blocks: Vec<TemplateBlock>,
+    pub(crate) blocks: Vec<TemplateBlock>,
     /// Where the first block of each name stands among them.
-    pub places: BTreeMap<String, usize>,
+    pub(crate) places: BTreeMap<String, usize>,
     /// The names of those that are inside no other block.
-    pub tops: Vec<Name>,
+    pub(crate) tops: Vec<Name>,
     /// The names that it includes, in the order of its text.
-    pub includes: Vec<Name>,
+    pub(crate) includes: Vec<Name>,
     /// The names that are free in its text, each once.
-    pub free: BTreeSet<String>,
+    pub(crate) free: BTreeSet<String>,
     /// The components that it defines, in the order of its text.
-    pub components: Vec<Component>,
+    pub(crate) components: Vec<Component>,
     /// What it calls that is not built in. Whether that is there is looked up when templates are linked.
-    pub needs: Vec<Need>,
-    pub meant: Meant,
+    pub(crate) needs: Vec<Need>,
+    pub(crate) meant: Meant,
     ghost compiled: { body.value.chunk
         ≡ listing_of (string_bytes name) (nodes_of meant.nodes) } by { Prim.hlevel
             (codes, chunk.the_row.coded) },

@@ -1,5 +1,5 @@
 -- The end of a run.
-use Rattle.std.proofs.Common.{◌≡◌, ℕ, List, Option, Result, Ok, Err, sym, ap, ◌∙◌, subst}
+use Rattle.std.proofs.Common.{◌≡◌, ℕ, List, Option, Result, Ok, Err, OnOk, sym, ap, ◌∙◌, subst}
 use Rattle.std.specs.List.{flat_map}
 use Rattle.tera.specs.Registry.{Registry}
 use Rattle.tera_run_script.specs.Act.{acts_of}
@@ -60,6 +60,6 @@ breaks_off old new reader_old reader_new ended writer_old writer_new bytes scrip
     record { run = run_of old new reader_old reader_new ended bytes script replies read r; written = written }
 
 -- a complaint that was put
-pub complained : (old new : Passage) (line : ℕ) (text : List ℕ) (result : Result (Unit {0}) Failure) → text ≡ complaint_line line → Puts old new text result → Complained old new line
-complained old new line text (Ok done) e h = whole (subst (PassesAll old new) e h)
-complained old new line text (Err failure) e h = broken (subst (PassesPart old new) e h)
+pub complained : (old new : Passage) (settled : Type 0) (line : ℕ) (text : List ℕ) (result : Result (Unit {0}) Failure) → text ≡ complaint_line line → Puts old new text result → OnOk result settled → Complained old new settled line
+complained old new settled line text (Ok done) e h handed_on = whole (subst (PassesAll old new) e h) handed_on
+complained old new settled line text (Err failure) e h handed_on = broken (subst (PassesPart old new) e h)

@@ -69,13 +69,16 @@ Ran registry_old registry_new reader_old reader_new ended writer_old writer_new 
 abbrev pub complaint_line : ℕ → Text
 complaint_line line = codes "unreadable command at line " ++ decimal line ++ codes "\n"
 
--- the line is written, or as much of it as the writer takes before it fails
-pub data Complained (old new : Passage) (line : ℕ) : Type 0 where
-  whole : (all : PassesAll old new (complaint_line line)) → Complained old new line
-  broken : (part : PassesPart old new (complaint_line line)) → Complained old new line
+-- the line is written and handed on, or as much of it is written as the writer takes before it
+-- fails
+pub data Complained (old new : Passage) (settled : Type 0) (line : ℕ) : Type 0 where
+  whole :
+      (all : PassesAll old new (complaint_line line)) (handed_on : settled)
+      → Complained old new settled line
+  broken : (part : PassesPart old new (complaint_line line)) → Complained old new settled line
 
-abbrev pub Complains : Passage → Passage → Outcome → Type 0
-Complains old new Done = new ≡ old
-Complains old new (Unreadable line) = Complained old new line
-Complains old new Device = new ≡ old
-Complains old new NoMemory = new ≡ old
+abbrev pub Complains : Passage → Passage → Type 0 → Outcome → Type 0
+Complains old new settled Done = new ≡ old
+Complains old new settled (Unreadable line) = Complained old new settled line
+Complains old new settled Device = new ≡ old
+Complains old new settled NoMemory = new ≡ old

@@ -34,10 +34,11 @@ impl Outcome {
     }
 }
 
-/// Writes a line for an unreadable command, and nothing for any other outcome. It takes no memory, and a failure of the
-/// writer is ignored.
+/// Writes a line for an unreadable command, and has it handed on; for any other outcome it writes nothing. It takes no memory,
+/// and a failure of the writer is ignored.
 pub fn complaint<W: Output>(outcome: &Outcome, writer: &mut W)
-    ensures complains { Complains (W.passed writer.old) (W.passed writer.new) outcome.now }
+    ensures complains { Complains (W.passed writer.old) (W.passed writer.new)
+        (W.settled writer.new) outcome.now }
     ensures device { ToDevice W.passed W.contents writer.old writer.new }
 {
     if let Outcome::Unreadable(line) = outcome {

@@ -1,4 +1,5 @@
 // Whole texts to an output.
+ghost use Rattle.std.specs.Prelude.{OnOk};
 ghost use Rattle.std.specs.List.{flat_map};
 ghost use Rattle.tera_run_script.specs.Device.{Writes};
 
@@ -31,8 +32,9 @@ pub fn write_pieces<W: Output>(writer: &mut W, pieces: &[&[u8]]) -> Result<(), F
 
 /// Writes the pieces in order, and has them handed on, unless the output fails.
 pub fn put<W: Output>(writer: &mut W, pieces: &[&[u8]]) -> Result<(), Failure>
-    ensures { Writes W.passed W.contents writer.old writer.new
+    ensures written { Writes W.passed W.contents writer.old writer.new
         (flat_map (λ piece. piece.now) pieces.now) result }
+    ensures settled { OnOk result (W.settled writer.new) }
 {
     match write_pieces(writer, pieces) {
         Ok(()) => writer.flush(),

@@ -9,3 +9,4 @@ pub mod Beyond
 pub mod Started
 pub mod Stacks
 pub mod Ends
+pub mod FoundNames

@@ -1,5 +1,5 @@
 -- How a loop begins.
-use Rattle.std.proofs.Common.{◌≡◌, ℕ, List, [], ◌∷◌, Option, Some, None, Result, Ok, Err, Bool, true, false, cond, length, drop, refl, sym, ap, ◌∙◌}
+use Rattle.std.proofs.Common.{◌≡◌, ℕ, List, [], ◌∷◌, Option, Some, None, Result, Ok, Err, IsOk, Bool, true, false, cond, length, drop, refl, sym, ap, ◌∙◌}
 use Rattle.std.specs.Prelude.{slice_get, ◌&&◌, not}
 use Rattle.std.specs.Option.{is_some}
 use Rattle.tera_errors.specs.Fault.{message}
@@ -20,6 +20,15 @@ with_items h false (Some js) is e = let same : js ≡ is = cc in (ap Some same, 
 
 pub turns_of_items : (h : Heading) (v : Val) (is : List Item) → items_for (is_some h.key) v ≡ Ok is → (items_in plain v ≡ Some is) × (loop_turns h v ≡ Ok (turns_from h (length is) 0 is))
 turns_of_items h v is e = with_items h (is_some h.key && not (is_map v)) (items_in plain v) is e
+
+-- where a loop has turns it has items
+with_turns : (h : Heading) (b : Bool) (o : Option (List Item)) → IsOk (cond b (Err message) (turns_over h o)) → IsOk (cond b (Err message) (given o))
+with_turns h true o k = k
+with_turns h false None k = k
+with_turns h false (Some is) k = refl
+
+pub turns_need_items : (h : Heading) (v : Val) → IsOk (loop_turns h v) → IsOk (items_for (is_some h.key) v)
+turns_need_items h v = with_turns h (is_some h.key && not (is_map v)) (items_in plain v)
 
 -- a text is gone over by its clusters
 module _ (is_keyed : Bool) (content : List ℕ) (safe : Bool) (target : Val) where

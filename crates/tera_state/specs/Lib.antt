@@ -10,6 +10,6 @@ pub mod Opened
 pub mod Lending
 pub mod Scopes
 pub mod Rendered
+pub mod FoundNames
 pub mod View
-pub mod MarkedTexts
 pub mod Prelude

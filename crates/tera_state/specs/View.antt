@@ -4,13 +4,15 @@ use Rattle.std.specs.Borrow.{Bor}
 use Rattle.std.specs.List.{list_any}
 use Rattle.std.specs.Str.{bytes_eq}
 use Rattle.tera_errors.specs.Site.{Name, Text}
-use Rattle.tera_errors.specs.Fault.{Fault, message}
+use Rattle.tera_errors.specs.Fault.{Fault}
 use Rattle.tera_values.specs.Val.{Val, undefined}
-use Rattle.tera_values.specs.Named.{at_name}
+use Rattle.tera_values.specs.Named.{Named, at_name}
 use Rattle.tera_values.specs.Access.{is_undefined}
+use Rattle.tera_values.specs.Arguments.{unless_undefined}
 use Rattle.tera_built_ins.specs.declared.filter.BuiltInFilter.{BuiltInFilter}
 use Rattle.tera_built_ins.specs.Escaping.{Escaping, escape_or_html}
 use Rattle.tera_built_ins.specs.Filters.{filter_named}
+use Rattle.tera_state.specs.FoundNames.{names_in, found_among, found_names, IsMapOf}
 use Rattle.tera_state.specs.Rendered.{rendered}
 use Rattle.tera_state.specs.Scope.{Around, Variables, look}
 use Rattle.tera_state.specs.Scopes.{around_of, variables_of}
@@ -50,6 +52,16 @@ abbrev pub look_in_source : Source → Name → Val
 look_in_source (Alone context) name = unwrap_or (at_name name context.now) undefined
 look_in_source (Open scopes) name = look name (around_of scopes.now) (variables_of scopes.now)
 
+-- the names that are found there, each with its value
+abbrev pub names_in_source : Source → Named Val
+names_in_source (Alone context) =
+    found_among (look_in_source (Alone context)) (names_in context.now)
+names_in_source (Open scopes) = found_names (around_of scopes.now) (variables_of scopes.now)
+
+-- what a state finds by name is a finite map
+abbrev pub StateNamesAreAMap : Type 0
+StateNamesAreAMap = (source : Source) → IsMapOf (look_in_source source) (names_in_source source)
+
 abbrev pub lent_names : Option (Bor (List Name)) → Option (List Name)
 lent_names = option_map (λ names. names.now)
 
@@ -72,7 +84,7 @@ written view v = rendered view.autoescape view.escape v
 
 -- the same of a value that is defined; undefined is refused
 abbrev pub escaped_if_needed : View → Val → Result Text Fault
-escaped_if_needed view v = if is_undefined v then Err message else Ok (written view v)
+escaped_if_needed view v = unless_undefined (written view) v
 
 abbrev pub some_of : {A : Type 0} → Result A Fault → Result (Option A) Fault
 some_of (Ok a) = Ok (Some a)

@@ -1,7 +1,7 @@
 // What an open loop goes over, by position.
-ghost use Rattle.std.specs.Prelude.{◌≡◌, ◌&&◌, Ok, drop, length, not, slice_get};
+ghost use Rattle.std.specs.Prelude.{◌≡◌, ◌&&◌, IsOk, None, Ok, drop, length, not, slice_get};
 ghost use Rattle.tera_errors.specs.Prelude.{Gives};
-ghost use Rattle.tera_values.specs.Prelude.{plain, array, vals};
+ghost use Rattle.tera_values.specs.Prelude.{plain, array, text_of, vals};
 ghost use Rattle.tera_state.specs.Found.{found_value};
 ghost use Rattle.tera_state.specs.Items.{clusters_in};
 ghost use Rattle.tera_state.specs.Scope.{is_map};
@@ -103,7 +103,8 @@ pub(crate) fn key_at(items: &Value, index: usize) -> Found<'_>
 /// What a loop over the value goes over by position: the value itself, and for a text, whose clusters are made here, their
 /// array. With a key it must be a map.
 pub(crate) fn gone_over(alloc: Global, is_keyed: bool, target: Value) -> TeraResult<Value>
-    ensures { Gives walked result (items_for is_keyed target) }
+    ensures items { Gives walked result (items_for is_keyed target) }
+    ensures ready { text_of target ≡ None → IsOk (items_for is_keyed target) → IsOk result }
 {
     if lacks_keys(is_keyed, &target) {
         return Err(Error::message(alloc, "a loop with a key needs a map"));

@@ -1,7 +1,7 @@
 // Open loops.
-ghost use Rattle.std.specs.Prelude.{◌≡◌, IfOk, Some, drop, length, true, false};
+ghost use Rattle.std.specs.Prelude.{◌≡◌, IfOk, IsOk, None, Some, drop, length, true, false};
 ghost use Rattle.tera_errors.specs.Prelude.{Gives};
-ghost use Rattle.tera_values.specs.Prelude.{plain, at_name};
+ghost use Rattle.tera_values.specs.Prelude.{plain, at_name, text_of};
 ghost use Rattle.tera_state.specs.Found.{found_value};
 ghost use Rattle.tera_state.specs.Items.{items_in};
 ghost use Rattle.tera_state.specs.Lending.{items_left};
@@ -32,6 +32,8 @@ impl ForLoop {
     pub fn new(alloc: Global, name: Name, key: Option<Name>, target: Value) -> Begun
         ensures turns { Gives turns_left result (loop_turns (heading name key true) target) }
         ensures items { IfOk result (λ opened. items_in plain target ≡ Some (items_over opened)) }
+        ensures ready { text_of target ≡ None → IsOk (loop_turns (heading name key true) target)
+            → IsOk result }
     {
         ForLoop::begin(alloc, name, key, true, target)
     }
@@ -40,14 +42,19 @@ impl ForLoop {
     pub fn new_comprehension(alloc: Global, name: Name, key: Option<Name>, target: Value) -> Begun
         ensures turns { Gives turns_left result (loop_turns (heading name key false) target) }
         ensures items { IfOk result (λ opened. items_in plain target ≡ Some (items_over opened)) }
+        ensures ready { text_of target ≡ None → IsOk (loop_turns (heading name key false) target)
+            → IsOk result }
     {
         ForLoop::begin(alloc, name, key, false, target)
     }
 
     // The same, which counts or does not.
+    #[tactic(auto, using(crate::proofs::Started::turns_need_items))]
     fn begin(alloc: Global, name: Name, key: Option<Name>, counts: bool, target: Value) -> Begun
         ensures turns { Gives turns_left result (loop_turns (heading name key counts) target) }
         ensures items { IfOk result (λ opened. items_in plain target ≡ Some (items_over opened)) }
+        ensures ready { text_of target ≡ None → IsOk (loop_turns (heading name key counts) target)
+            → IsOk result }
     {
         let items = gone_over(alloc, key.is_some(), target)?;
         if size_of(&items) == 0 {

@@ -12,7 +12,9 @@ use crate::rendered::write_value;
 use crate::scopes::Scopes;
 use std::alloc::Global;
 use tera_built_ins::{BuiltInFilter, EscapeFn, Escaping};
-use tera_values::{ArgFromValue, Context, Error, Kwargs, Name, Sought, TeraResult, Value};
+use tera_values::{
+    ArgFromValue, Context, Error, Kwargs, Name, Sought, TeraResult, Value, WritesValues,
+};
 
 /// Where names are looked up: in a context alone, or in the scopes of a rendering.
 #[derive(Drop)]
@@ -100,7 +102,7 @@ impl<'a, 'c, E: EscapeFn> StateOver<'a, 'c, E> {
         ensures undefined { IsTrue (is_undefined ((view_of E.escaped self.now).look name.now))
             → IsOk result }
     {
-        let found = self.source.look(name);
+        let found = self.look(name);
         if found.is_undefined() {
             return Ok(None);
         }
@@ -153,8 +155,16 @@ impl<'a, 'c, E: EscapeFn> StateOver<'a, 'c, E> {
         }
     }
 
-    // What a built-in sees of it.
-    fn escaping(&self) -> Escaping<'_, Option<E>>
+    // What the name stands for.
+    pub(crate) fn look(&self, name: &str) -> Found<'_>
+        ensures { unwrap_or (found_value result) undefined
+            ≡ (view_of E.escaped self.now).look name.now }
+    {
+        self.source.look(name)
+    }
+
+    /// What a built-in sees of it.
+    pub fn escaping(&self) -> Escaping<'_, Option<E>>
         ensures { escaping_of (escape_or_html E.escaped) result
             ≡ escaping_in (view_of E.escaped self.now) }
     {
@@ -172,6 +182,16 @@ impl<'a, 'c, E: EscapeFn> StateOver<'a, 'c, E> {
             Some(taken) => filter_left(taken, name),
             None => None,
         }
+    }
+}
+
+impl<'a, 'c, E: EscapeFn> WritesValues for StateOver<'a, 'c, E> {
+    ghost use Rattle.tera_state.specs.View.{view_of, written as written_in};
+
+    ghost written = { λ s v. written_in (view_of E.escaped s) v };
+
+    fn escape_if_needed(&self, value: &Value) -> TeraResult<String> {
+        StateOver::escape_if_needed(self, value)
     }
 }
 

@@ -12,3 +12,5 @@ pub mod Placed
 pub mod Extending
 pub mod Plain
 pub mod Inside
+pub mod TreeRead
+pub mod Computes

@@ -7,4 +7,5 @@ pub mod File
 pub mod Names
 pub mod View
 pub mod Positions
+pub mod TreeRead
 pub mod Laws

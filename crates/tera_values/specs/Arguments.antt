@@ -1,7 +1,8 @@
 -- What arguments are read as.
-use Rattle.std.specs.Prelude.{ℕ, pos, false, cond, nat_lt, Option, Some, None, Result, Ok, Err}
-use Rattle.tera_errors.specs.Fault.{Fault, invalid_argument, missing_argument}
+use Rattle.std.specs.Prelude.{ℕ, pos, Bool, false, cond, if◌then◌else◌, nat_lt, Option, Some, None, is_some, Result, Ok, Err}
+use Rattle.tera_errors.specs.Fault.{Fault, invalid_argument, message, missing_argument}
 use Rattle.tera_values_data.specs.Val.{Val, bool, int, text, array, map}
+use Rattle.tera_values_data.specs.Access.{is_undefined, text_of}
 
 abbrev pub Reading : Type 0
 Reading = Val → Result Val Fault
@@ -24,6 +25,11 @@ abbrev pub as_text : Reading
 as_text (text t s) = Ok (text t false)
 as_text v = Err invalid_argument
 
+-- a text with its mark
+abbrev pub as_marked_text : Reading
+as_marked_text (text t s) = Ok (text t s)
+as_marked_text v = Err invalid_argument
+
 abbrev pub as_array : Reading
 as_array (array vs) = Ok (array vs)
 as_array v = Err invalid_argument
@@ -45,3 +51,10 @@ read reading (Some v) = given (reading v)
 abbrev pub read_needed : Reading → Option Val → Result Val Fault
 read_needed reading None = Err missing_argument
 read_needed reading (Some v) = reading v
+
+abbrev pub is_text : Val → Bool
+is_text v = is_some (text_of v)
+
+-- what is made of a value that is defined; undefined is refused in words
+abbrev pub unless_undefined : {A : Type 0} → (Val → A) → Val → Result A Fault
+unless_undefined f v = if is_undefined v then Err message else Ok (f v)

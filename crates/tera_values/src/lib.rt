@@ -8,11 +8,13 @@ pub mod kwargs;
 pub mod laws;
 pub mod name;
 pub mod number;
+pub mod string_input;
 
 pub use argument::ArgFromValue;
 pub use context::Context;
 pub use counter::Counter;
 pub use kwargs::Kwargs;
 pub use name::{Name, Sought};
+pub use string_input::{StringInput, WritesValues};
 pub use tera_errors::{Error, ErrorKind, ReportError, Span, TeraResult};
 pub use tera_values_data::{Key, Map, Shape, Value, ValueKind, escape_html, escape_xml};

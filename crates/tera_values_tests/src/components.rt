@@ -3,7 +3,7 @@ use crate::sample::Sample::{Int, Safe, Text, Undefined};
 use crate::sample::{Sample, is_value, map, refusal, value};
 use std::alloc::Global;
 use tera_components::{ComponentDefinition, ComponentInfo};
-use tera_state::Scopes;
+use tera_state::{Implicits, Scopes, State};
 use tera_syntax_tree::{ArgumentType, Literal, Parameter, Quoted, Signature};
 use tera_values::{Context, Error, Map, TeraResult, Value};
 
@@ -63,8 +63,13 @@ fn by_name(
 
 fn with_body(alloc: Global, given: &Map, body: Value) -> TeraResult<Value> {
     let implicits = named(alloc, &[("name", Text("Vincent"))])?;
-    let caller = Scopes::new(alloc, &implicits, None);
-    let context = show(alloc, None)?.build_context(alloc, given, &caller, Some(body))?;
+    let context = show(alloc, None)?.build_context(alloc, given, &implicits, Some(body))?;
+    context.to_value()
+}
+
+fn without_arguments<C: Implicits>(alloc: Global, caller: &C) -> TeraResult<Value> {
+    let given = Map::new(alloc);
+    let context = show(alloc, None)?.build_context(alloc, &given, caller, None)?;
     context.to_value()
 }
 
@@ -122,6 +127,27 @@ fn bodies_are_bound(rt: HostRuntime) {
     let bound = "map {\"body\": \"<b>\", \"lang\": 4, \"name\": \"Vincent\", \"size\": 2}";
     assert!(rt; answers_with_body(alloc, &[("lang", 4)], bound));
     assert!(rt; answers_with_body(alloc, &[("lung", 4)], "message"));
+}
+
+fn looks_up(alloc: Global, implicits: &Context, global: &Context) -> bool {
+    let state: State<'_> = State::new(implicits);
+    let alone = "map {\"lang\": \"fr\", \"name\": \"Vincent\", \"size\": 2}";
+    let both = "map {\"lang\": \"en\", \"name\": \"Vincent\", \"size\": 2}";
+    answers(alloc, without_arguments(alloc, implicits), alone)
+        && answers(alloc, without_arguments(alloc, &state), alone)
+        && answers(alloc, without_arguments(alloc, &(implicits, global)), both)
+        && answers(alloc, without_arguments(alloc, global), "message")
+}
+
+#[test]
+fn implicits_are_looked_up_in_contexts_and_states(rt: HostRuntime) {
+    let alloc = rt.alloc();
+    let implicits = named(alloc, &[("name", Text("Vincent"))]);
+    let global = named(alloc, &[("lang", Text("en")), ("name", Undefined)]);
+    match (implicits, global) {
+        (Ok(implicits), Ok(global)) => assert!(rt; looks_up(alloc, &implicits, &global)),
+        _ => assert!(rt; false),
+    }
 }
 
 fn is_told(alloc: Global) -> TeraResult<bool> {

@@ -3,8 +3,8 @@ use Rattle.tera_run_script.proofs.Devices.{taking, through_then, to_flush}
 use Rattle.tera_run_script.proofs.Passages.{flushed}
 use Rattle.tera_run_script.proofs.output.put.Goals as goal
 
-pub returns-in-Ok : goal.returns-in-Ok
-returns-in-Ok g c =
+pub returns-in-Ok-clause-written : goal.returns-in-Ok-clause-written
+returns-in-Ok-clause-written g c =
     let passed = g.W.Output.passed in
     let contents = g.W.Output.contents in
     record {

@@ -3,15 +3,13 @@ use Rattle.tera_errors.specs.Answer.{Says}
 use Rattle.tera_errors.specs.Site.{Name}
 use Rattle.tera_values.specs.Val.{Val}
 use Rattle.tera_values.specs.Named.{Named, put}
-use Rattle.tera_state.specs.Scope.{look_implicit}
-use Rattle.tera_state.specs.Scopes.{around_of, variables_of}
 use Rattle.tera_components.specs.Definition.{named_arguments, with_formals, or_message}
 use Rattle.tera_components.proofs.Calls.{answered, with_formals_refused, with_formals_next}
 use Rattle.tera_components.proofs.definition.ComponentDefinition.put_arguments.Goals as goal
 
 pub returns-in_err-value : goal.returns-in_err-value
-returns-in_err-value c =
-    let look : Name → Val = λ n. look_implicit n (around_of c.args.caller.now) (variables_of c.args.caller.now) in
+returns-in_err-value g c =
+    let look : Name → Val = g.C.Implicits.implicit c.args.caller.now in
     let given : List (Name × Val) = named_arguments c.args.given.now in
     let meant : Option (Named Val) = with_formals look given c.args.self.now.formals c.args.context.now in
     let says : Says c.in_err-value.field-0.0 (or_message meant) =
@@ -19,8 +17,8 @@ returns-in_err-value c =
     search rules
 
 pub loop-argument-preserved : goal.loop-argument-preserved
-loop-argument-preserved c =
-    let look : Name → Val = λ n. look_implicit n (around_of c.args.caller.now) (variables_of c.args.caller.now) in
+loop-argument-preserved g c =
+    let look : Name → Val = g.C.Implicits.implicit c.args.caller.now in
     let given : List (Name × Val) = named_arguments c.args.given.now in
     let name = c.in_ok-shared_name.field-0 in
     let value = c.in_ok-shared.field-0 in

@@ -1,13 +1,11 @@
 use Rattle.std.proofs.Common.{◌≡◌, List, drop}
 use Rattle.tera_errors.specs.Site.{Name}
 use Rattle.tera_values.specs.Val.{Val}
-use Rattle.tera_state.specs.Scope.{look_implicit}
-use Rattle.tera_state.specs.Scopes.{around_of, variables_of}
 use Rattle.tera_components.specs.Definition.{named_arguments, with_formals}
 use Rattle.tera_components.proofs.definition.ComponentDefinition.put_arguments.Given as goal
 
 abbrev pub invariant-loop-argument : goal.invariant-loop-argument
-invariant-loop-argument l =
-    let look : Name → Val = λ n. look_implicit n (around_of l.caller) (variables_of l.caller) in
+invariant-loop-argument g l =
+    let look : Name → Val = g.C.Implicits.implicit l.caller in
     let given : List (Name × Val) = named_arguments l.given in
     with_formals look given l.self.formals l.initial.context ≡ with_formals look given (drop l.argument-index l.argument-items) l.context

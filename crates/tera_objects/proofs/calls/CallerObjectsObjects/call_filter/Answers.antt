@@ -1,13 +1,11 @@
-use Rattle.std.proofs.Common.{ap, sym, ◌∙◌, option_copied}
-use Rattle.tera_objects.proofs.Called.{own-filter, no-own-filter}
+use Rattle.tera_objects.proofs.Called.{filter-stored, no-filter}
 use Rattle.tera_objects.proofs.calls.CallerObjectsObjects.call_filter.Goals as goal
 
 pub returns-in_default : goal.returns-in_default
 returns-in_default g c =
-    no-own-filter _ _ c.args.self.now c.args.call c.args.value.now _
-    (sym c.get.ensures ∙ ap option_copied c.in_default.is) c.built_in_answer.ensures
+    no-filter _ _ c.args.self.now c.args.call c.args.value.now c.filter.result c.filter.ensures c.message.result c.in_default.is c.message.ensures
 
 pub returns : goal.returns
 returns g c =
-    own-filter _ _ c.args.self.now c.args.call c.args.value.now _
-    c.lent-state.ensures (sym (ap option_copied c.in-Some.is) ∙ c.get.ensures) c.filter_answer.ensures
+    filter-stored _ _ c.args.self.now c.args.call c.args.value.now c.filter.result c.filter.ensures _
+    c.lent-state.ensures c.in-Some.is c.is_safe.ensures (c.marked_if.ensures _ c.call.ensures)

@@ -1,13 +1,11 @@
-use Rattle.std.proofs.Common.{ap, sym, ◌∙◌, option_copied}
-use Rattle.tera_objects.proofs.Called.{own-test, no-own-test}
+use Rattle.tera_objects.proofs.Called.{test-stored, no-test}
 use Rattle.tera_objects.proofs.calls.CallerObjectsObjects.call_test.Goals as goal
 
 pub returns-in_default : goal.returns-in_default
 returns-in_default g c =
-    no-own-test _ _ c.args.self.now c.args.call _ c.args.value.now _
-    (sym c.get.ensures ∙ ap option_copied c.in_default.is) c.built_in_test_answer.ensures
+    no-test _ _ c.args.self.now c.args.call _ c.args.value.now c.test.result c.test.ensures c.message.result c.in_default.is c.message.ensures
 
 pub returns : goal.returns
 returns g c =
-    own-test _ _ c.args.self.now c.args.call _ c.args.value.now _
-    c.lent-state.ensures (sym (ap option_copied c.in-Some.is) ∙ c.get.ensures) c.test_answer.ensures
+    test-stored _ _ c.args.self.now c.args.call _ c.args.value.now c.test.result c.test.ensures _
+    c.lent-state.ensures c.in-Some.is c.call.ensures

@@ -13,4 +13,4 @@ returns c =
     let h : Heading = heading c.args.name c.args.key c.args.counts in
     let over : items_for (is_some c.args.key) c.args.target ≡ Ok (walked items) = search rules in
     let same = turns_of_items h c.args.target (walked items) over in
-    record { turns = same.1 ∙ ap Ok (first_turn l refl (search rules)); items = same.0 }
+    record { turns = same.1 ∙ ap Ok (first_turn l refl (search rules)); items = same.0; ready = λ none fits. refl }

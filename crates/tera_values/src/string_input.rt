@@ -1,15 +1,25 @@
 // A text with its mark, as an argument.
 ghost use Rattle.std.specs.Prelude.{◌≡◌, Ok, Some, IsTrue, string_bytes};
-ghost use Rattle.tera_errors.specs.Prelude.{Gives};
-ghost use Rattle.tera_values.specs.Prelude.{text, is_safe, text_of};
-ghost use Rattle.tera_built_ins.specs.Prelude.{is_text};
-ghost use Rattle.tera_state.specs.MarkedTexts.{as_marked_text};
+ghost use Rattle.tera_errors.specs.Prelude.{Gives, Text};
+ghost use Rattle.tera_values_data.specs.Prelude.{Val, text};
+ghost use Rattle.tera_values_data.specs.Access.{is_safe, text_of};
+ghost use Rattle.tera_values.specs.Arguments.{as_marked_text, is_text, unless_undefined};
 
-use crate::state::StateOver;
+use crate::argument::ArgFromValue;
 use std::alloc::Global;
 use std::marker::Model;
-use tera_built_ins::EscapeFn;
-use tera_values::{ArgFromValue, Error, Shape, TeraResult, Value};
+use tera_errors::{Error, TeraResult};
+use tera_values_data::{Shape, Value};
+
+/// What values are written at: the state of a rendering.
+pub trait WritesValues {
+    // What is written for a value that is defined.
+    ghost written: { Self → Val → Text };
+
+    /// What is written for a value; an undefined one is refused.
+    fn escape_if_needed(&self, value: &Value) -> TeraResult<String>
+        ensures { Gives string_bytes result (unless_undefined (written self.now) value.now) };
+}
 
 /// A text with its mark, as an argument or the value of a name.
 #[derive(Drop)]
@@ -19,9 +29,9 @@ pub struct StringInput {
 
 impl Model for StringInput {
     ghost use Rattle.std.specs.Prelude.{IsTrue};
-    ghost use Rattle.tera_values.specs.Val.{Val};
-    ghost use Rattle.tera_values.specs.Coding.{val_coding};
-    ghost use Rattle.tera_built_ins.specs.Tests.{is_text};
+    ghost use Rattle.tera_values_data.specs.Val.{Val};
+    ghost use Rattle.tera_values_data.specs.Coding.{val_coding};
+    ghost use Rattle.tera_values.specs.Arguments.{is_text};
 
     ghost Value = { Val };
 
@@ -33,8 +43,6 @@ impl Model for StringInput {
 }
 
 impl StringInput {
-    ghost use Rattle.tera_state.specs.View.{view_of, written};
-
     fn new(value: Value) -> StringInput
         requires { IsTrue (is_text value) }
         ensures { result ≡ value }
@@ -76,8 +84,8 @@ impl StringInput {
     }
 
     /// What is written for the text where the state stands: its escape where text is escaped and this is not safe.
-    pub fn rendered<E: EscapeFn>(&self, state: &StateOver<'_, '_, E>) -> TeraResult<String>
-        ensures { Gives string_bytes result (Ok (written (view_of E.escaped state.now) self.now)) }
+    pub fn rendered<S: WritesValues>(&self, state: &S) -> TeraResult<String>
+        ensures { Gives string_bytes result (Ok (S.written state.now self.now)) }
     {
         state.escape_if_needed(&self.value)
     }

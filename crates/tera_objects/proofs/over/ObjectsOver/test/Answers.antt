@@ -1,0 +1,17 @@
+use Rattle.std.proofs.Common.{Some, None, sym, ap, ◌∙◌, option_copied}
+use Rattle.tera_built_ins.specs.TestTable.{test_named}
+use Rattle.tera_objects.specs.Table.{listed}
+use Rattle.tera_objects.proofs.Called.{finds-own, finds-built_in}
+use Rattle.tera_objects.proofs.over.ObjectsOver.test.Goals as goal
+
+pub returns-in-Some : goal.returns-in-Some
+returns-in-Some g c m =
+    finds-own m.test c.args.name.now (listed c.args.self.now.tests) (test_named c.args.name.now) c.in-Some.own.now (sym (ap option_copied c.in-Some.is) ∙ c.get.ensures)
+
+pub returns-in-Some-named : goal.returns-in-Some-named
+returns-in-Some-named g c m =
+    finds-built_in m.test c.args.name.now (listed c.args.self.now.tests) (test_named c.args.name.now) (Some c.in-Some-named.test) (sym c.in-Some-named.is ∙ c.named.ensures) (sym (ap option_copied c.in-None.is) ∙ c.get.ensures)
+
+pub returns-in-None-named : goal.returns-in-None-named
+returns-in-None-named g c m =
+    finds-built_in m.test c.args.name.now (listed c.args.self.now.tests) (test_named c.args.name.now) None (sym c.in-None-named.is ∙ c.named.ensures) (sym (ap option_copied c.in-None.is) ∙ c.get.ensures)

@@ -1,6 +1,6 @@
 -- Nodes that have no block outside of all others have none.
 use Rattle.std.proofs.Common.{◌≡◌, List, [], ◌∷◌, ◌++◌, refl, ap₂}
-use Rattle.tera_syntax_tree.specs.Tree.{Node, Content, Print, If, Set, Capture, FilterSection, For, Block, Include, ComponentCall, Definition, Break, Continue, Nodes, NoNodes, MoreNodes}
+use Rattle.tera_syntax_tree.specs.Tree.{Node, Content, Print, If, Set, Capture, FilterSection, For, Block, Include, ComponentCall, Break, Continue, Nodes, NoNodes, MoreNodes}
 use Rattle.tera_syntax_tree.specs.Blocks.{node_blocks, blocks, node_top_blocks, top_blocks}
 
 both-empty : {A : Type 0} (xs ys : List A) → xs ++ ys ≡ [] → (xs ≡ []) × (ys ≡ [])
@@ -23,7 +23,6 @@ mutual
   node_blocks-none (Block n body span) h = (let q : n ∷ [] ≡ [] = h in cc)
   node_blocks-none (Include n span) h = refl
   node_blocks-none (ComponentCall n all body span) h = blocks-none body h
-  node_blocks-none (Definition s body) h = blocks-none body h
   node_blocks-none Break h = refl
   node_blocks-none Continue h = refl
 

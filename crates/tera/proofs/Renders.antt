@@ -7,7 +7,7 @@ use Rattle.tera_values.specs.Alphabet.{marking}
 use Rattle.tera_values.specs.Escape.{escape_html}
 use Rattle.tera_values.specs.Val.{Val}
 use Rattle.tera_values.specs.Named.{Named}
-use Rattle.tera_syntax_tree.specs.Tree.{Tree, Nodes}
+use Rattle.tera_syntax_tree.specs.Tree.{Tree}
 use Rattle.tera_syntax.specs.Reads.{Reads}
 use Rattle.tera_state.specs.Scope.{Variables, nothing_set}
 use Rattle.tera_meaning.specs.Run.{Signal, Answer, Failed, Gave, begun}
@@ -18,7 +18,7 @@ use Rattle.tera_meaning.specs.Accepted.{misses_an_include}
 use Rattle.tera_machine.specs.Config.{Config, config_of, starting}
 use Rattle.tera_machine.specs.Subject.{Subject, meant, meant_from, Means}
 use Rattle.tera_machine.specs.declared.configuration.Configuration.{Configuration}
-use Rattle.tera.specs.Registry.{subject_beside, text_meant, is_there, one_off_meant}
+use Rattle.tera.specs.Registry.{subject_beside, text_meant, is_there, tree_beside, one_off_meant}
 use Rattle.tera.specs.Rendering.{OneOff, allowed}
 use Rattle.tera_meaning.specs.Rendering.{has_a_block, text_of, one_off_text, render_str, render_str_in}
 use Rattle.tera_marks.specs.Origin.{Traces}
@@ -70,22 +70,22 @@ abbrev unless : Bool → Result Text Fault → Result Text Fault
 unless b meant = if b then Err message else meant
 
 -- nodes that call what is not there are refused
-pub lacking-says : (s : Subject) (e : SeenError) → lacks_a_callee s.world.registry.engine (is_there s.world) s.tree ≡ true → Tells e message → Says e (one_off_meant s)
+pub lacking-says : (s : Subject) (e : SeenError) → lacks_a_callee s.world.registry.engine (is_there s.world) (tree_beside s) ≡ true → Tells e message → Says e (one_off_meant s)
 lacking-says s e lacks t =
-    told-says e (one_off_meant s) t (ap (λ b. unless (b || misses_an_include s.world.registry s.tree) (text_meant s)) lacks)
+    told-says e (one_off_meant s) t (ap (λ b. unless (b || misses_an_include s.world.registry (tree_beside s)) (text_meant s)) lacks)
 
 -- and so are those that include it
-pub missing-says : (s : Subject) (e : SeenError) → misses_an_include s.world.registry s.tree ≡ true → Tells e message → Says e (one_off_meant s)
+pub missing-says : (s : Subject) (e : SeenError) → misses_an_include s.world.registry (tree_beside s) ≡ true → Tells e message → Says e (one_off_meant s)
 missing-says s e missing t =
-    told-says e (one_off_meant s) t (ap (λ b. unless b (text_meant s)) (or-true (lacks_a_callee s.world.registry.engine (is_there s.world) s.tree) (misses_an_include s.world.registry s.tree) missing))
+    told-says e (one_off_meant s) t (ap (λ b. unless b (text_meant s)) (or-true (lacks_a_callee s.world.registry.engine (is_there s.world) (tree_beside s)) (misses_an_include s.world.registry (tree_beside s)) missing))
 
 -- any others are rendered
-pub nothing-missing : (s : Subject) → lacks_a_callee s.world.registry.engine (is_there s.world) s.tree ≡ false → misses_an_include s.world.registry s.tree ≡ false → text_meant s ≡ one_off_meant s
+pub nothing-missing : (s : Subject) → lacks_a_callee s.world.registry.engine (is_there s.world) (tree_beside s) ≡ false → misses_an_include s.world.registry (tree_beside s) ≡ false → text_meant s ≡ one_off_meant s
 nothing-missing s known there = sym (ap₂ (λ b c. unless (b || c) (text_meant s)) known there)
 
--- what its nodes mean beside the registry is what its tree means
-pub beside-means : (r : Registry) (tree : Tree) (nodes : Nodes) (context : Named Val) (autoescape : Bool) → nodes ≡ tree.nodes → one_off_meant (subject_beside r nodes context autoescape) ≡ one_off_text r tree context autoescape
-beside-means r tree nodes context autoescape is = ap (λ (ns : Nodes). one_off_meant (subject_beside r ns context autoescape)) is
+-- what is meant beside the registry is what its tree means
+pub beside-means : (r : Registry) (tree : Tree) (context : Named Val) (autoescape : Bool) → one_off_meant (subject_beside r tree context autoescape) ≡ one_off_text r tree context autoescape
+beside-means r tree context autoescape = refl
 
 module _ (r : Registry) (text : Text) (context : Named Val) where
   -- the law, where the answer is what the reading means

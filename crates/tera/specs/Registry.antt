@@ -5,15 +5,14 @@ use Rattle.tera_errors.specs.Fault.{Fault, message}
 use Rattle.tera_values.specs.Val.{Val}
 use Rattle.tera_values.specs.Named.{Named}
 use Rattle.tera_syntax_tree.specs.Delimiters.{delimiters_of}
-use Rattle.tera_syntax_tree.specs.Tree.{Nodes, NoNodes}
-use Rattle.tera_syntax_tree.specs.Definitions.{definitions}
+use Rattle.tera_syntax_tree.specs.Tree.{Nodes, NoNodes, Tree}
 use Rattle.tera_state.specs.Scope.{Around, nothing_set}
 use Rattle.tera_objects.specs.Engine.{Engine}
 use Rattle.tera_components.specs.Definition.{Info, definition_of, info_of}
 use Rattle.tera_meaning.specs.Run.{begun}
 pub use Rattle.tera_meaning.specs.Registry.{Entry, Registry, new_registry, standard_suffixes}
 use Rattle.tera_meaning.specs.Resolve.{entry_at}
-use Rattle.tera_meaning.specs.Rendering.{alone, autoescapes, outermost, text_of, block_of}
+use Rattle.tera_meaning.specs.Rendering.{alone, autoescapes, beside, outermost, text_of, block_of}
 use Rattle.tera_meaning.specs.Known.{lacks_a_callee}
 use Rattle.tera_meaning.specs.Components.{Component, component, one_off_name}
 use Rattle.tera_meaning.specs.Accepted.{misses_an_include}
@@ -47,10 +46,6 @@ place_at template file around autoescape = record {
   above = [];
 }
 
--- nodes beside a registry, with the components that they define
-abbrev pub beside_of : Registry → Nodes → World
-beside_of r nodes = record { registry = r; beside = definitions nodes }
-
 -- what a run of the machine is about where nodes are rendered in a context
 abbrev pub subject_of : World → Option Name → Name → Nodes → Named Val → Bool → Subject
 subject_of w template file nodes context autoescape = record {
@@ -59,10 +54,10 @@ subject_of w template file nodes context autoescape = record {
   tree = nodes;
 }
 
--- where these nodes are a text beside the registry
-abbrev pub subject_beside : Registry → Nodes → Named Val → Bool → Subject
-subject_beside r nodes context autoescape =
-    subject_of (beside_of r nodes) None one_off_name nodes context autoescape
+-- where this is the tree of a text beside the registry
+abbrev pub subject_beside : Registry → Tree → Named Val → Bool → Subject
+subject_beside r tree context autoescape =
+    subject_of (beside r tree) None one_off_name tree.nodes context autoescape
 
 abbrev pub nodes_in : Option Entry → Nodes
 nodes_in None = NoNodes
@@ -106,11 +101,15 @@ text_meant s = text_of (meant s (begun nothing_set))
 abbrev pub is_there : World → Name → Bool
 is_there w name = is_some (component_at w name)
 
--- the text of a body that calls and includes nothing that is not there
+-- a body and the components of the text beside the registry
+abbrev pub tree_beside : Subject → Tree
+tree_beside s = record { parent = None; nodes = s.tree; definitions = s.world.beside }
+
+-- the text of these, where they call and include nothing that is not there
 abbrev pub one_off_meant : Subject → Result Text Fault
 one_off_meant s =
-    if lacks_a_callee s.world.registry.engine (is_there s.world) s.tree
-    || misses_an_include s.world.registry s.tree
+    if lacks_a_callee s.world.registry.engine (is_there s.world) (tree_beside s)
+    || misses_an_include s.world.registry (tree_beside s)
     then Err message
     else text_meant s
 

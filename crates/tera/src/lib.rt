@@ -24,10 +24,10 @@ pub use tera_values_data::copy_items;
 pub use tera_components::{ComponentArg, ComponentDefinition, ComponentInfo};
 pub use tera_syntax::parse;
 pub use tera_syntax_tree::{
-    Applied, Argument, ArgumentType, BinaryOperator, Bounds, Called, Captured, Choice, Collected,
-    ComponentTag, Delimiters, Entry, Expression, Heading, Indexed, Item, Literal, LiteralEntry,
-    LiteralKey, Node, Operands, OwnedKey, Parameter, ParserOutput, Quoted, SectionFilter,
-    Signature, Sliced,
+    Applied, Argument, ArgumentType, BinaryOperator, Block, Bounds, Called, Captured, Choice,
+    Collected, ComponentTag, DefinedComponent, Delimiters, Entry, Expression, Heading, Indexed,
+    Item, Literal, LiteralEntry, LiteralKey, Node, Operands, OwnedKey, Parameter, ParserOutput,
+    Quoted, SectionFilter, Signature, Sliced,
 };
 // What a template calls, and the state that it sees.
 pub use tera_built_ins::{BuiltInFilter, BuiltInFunction, BuiltInTest, EscapeFn, Escaping};

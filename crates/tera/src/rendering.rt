@@ -21,7 +21,7 @@ use tera_registry::tops::top_blocks;
 use tera_registry::{Body, FoundTemplate, TextTable};
 use tera_state::Scopes;
 use tera_syntax::parse;
-use tera_syntax_tree::{Node, ParserOutput};
+use tera_syntax_tree::ParserOutput;
 use tera_values::{Context, Error, Name, TeraResult};
 
 /// The name that faults give to a text that is no template of the engine.
@@ -41,23 +41,20 @@ impl<O: Objects> TeraOver<O> {
     {
         match parse(self.alloc, ONE_OFF, input, &self.delimiters) {
             Ok(output) => match allow(self.alloc, &output) {
-                Ok(()) => self.render_nodes::<Brand>(
-                    output.nodes.as_slice(),
-                    context,
-                    autoescape,
-                    Blank::new(1),
-                ),
+                Ok(()) => {
+                    self.render_output::<Brand>(&output, context, autoescape, Blank::new(1))
+                }
                 Err(error) => Err(error),
             },
             Err(error) => Err(error),
         }
     }
 
-    // The text of these nodes, which stand beside the registry; an error where they call or include what is not there. The
-    // subject is theirs.
-    fn render_nodes<'s, L: Ledger>(
+    // The text that was read to this and stands beside the registry, rendered; an error where it calls or includes what is not there.
+    // The subject is its own.
+    fn render_output<'s, L: Ledger>(
         &'s self,
-        nodes: &[Node],
+        output: &ParserOutput,
         context: &'s Context,
         autoescape: bool,
         blank: Blank,
@@ -65,19 +62,21 @@ impl<O: Objects> TeraOver<O> {
         ghost about: { Subject }
         requires ledger { (blank.name ≡ L.name) × (blank.parts ≡ L.parts) × (L.parts ≡ 1) }
         requires subject { about
-            ≡ subject_beside (registry_of O.engine self.now) (nodes_of nodes.now)
+            ≡ subject_beside (registry_of O.engine self.now) (tree_of output.now)
             context.now autoescape }
-        requires plain { blocks (nodes_of nodes.now) ≡ [] }
+        requires plain { blocks (nodes_of output.now.nodes.items) ≡ [] }
         ensures { Gives string_bytes result (one_off_meant about) }
     {
         let alloc = self.alloc;
+        let nodes = output.nodes.as_slice();
+        let definitions = output.component_definitions.as_slice();
         let chunk = compiled(alloc, ONE_OFF, nodes)?;
-        let own = components(alloc, ONE_OFF, nodes)?;
+        let own = components(alloc, ONE_OFF, definitions)?;
         let text = TextTable::new(alloc, &self.templates, chunk, own)?;
         if text.lacks_a_callee(&self.objects) {
             return Err(Error::message(alloc, "what is called is not there"));
         }
-        if self.templates.misses_an_include(nodes) {
+        if self.templates.misses_an_include(output) {
             return Err(Error::message(alloc, "what is included is not there"));
         }
         let alone = VirtualMachine::new_with_autoescape(alloc, autoescape, &self.objects);

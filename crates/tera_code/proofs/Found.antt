@@ -1,13 +1,13 @@
 -- Blocks that are found one after another.
-use Rattle.std.proofs.Common.{◌≡◌, ◌⊎◌, inl, inr, ℕ, Bool, Bor, List, [], ◌∷◌, ◌++◌, map, Vec, Box, Global, Result, OnOk, sym, ap, ap₂, ◌∙◌, append_assoc}
+use Rattle.std.proofs.Common.{◌≡◌, ◌⊎◌, inl, inr, Bool, List, [], ◌∷◌, ◌++◌, map, Vec, Box, Global, Result, OnOk, sym, ap, ap₂, ◌∙◌, append_assoc}
 use Rattle.std.specs.declared.alloc.AllocError.{AllocError}
 use Rattle.std.proofs.lemmas.List.{map-append}
 use Rattle.tera_errors.specs.Site as site
 use Rattle.tera_errors.specs.declared.span.Span.{Span}
-use Rattle.tera_syntax_tree.specs.declared.component.Signature.{Signature}
 use Rattle.tera_syntax_tree.specs.declared.expression.ComponentTag.{ComponentTag}
 use Rattle.tera_syntax_tree.specs.declared.expression.Expression.{Expression}
 use Rattle.tera_syntax_tree.specs.declared.expression.Heading.{Heading}
+use Rattle.tera_syntax_tree.specs.declared.node.Block.{Block as Read}
 use Rattle.tera_syntax_tree.specs.declared.node.Captured.{Captured}
 use Rattle.tera_syntax_tree.specs.declared.node.Node.{Node}
 use Rattle.tera_syntax_tree.specs.declared.node.Node.TheVariants as variant
@@ -15,7 +15,7 @@ use Rattle.tera_syntax_tree.specs.declared.node.SectionFilter.{SectionFilter}
 use Rattle.tera_syntax_tree.specs.Tree as tree
 use Rattle.tera_syntax_tree.specs.View.{node_of, nodes_of}
 use Rattle.tera_syntax_tree.specs.Blocks.{blocks, node_blocks}
-use Rattle.tera_syntax_tree.proofs.Views.{view_block, view_capture, view_component_call, view_definition, view_for, view_if, view_section}
+use Rattle.tera_syntax_tree.proofs.Views.{view_block, view_capture, view_component_call, view_for, view_if, view_section}
 use Rattle.tera_code.specs.declared.blocks.Block.{Block}
 use Rattle.tera_code.specs.Listing.{Listing}
 use Rattle.tera_code.specs.Blocks.{block_of, block_listing, block_listings}
@@ -41,12 +41,11 @@ found_block file old mid block body e h =
 
 -- a node's are those of its body
 pub blocks_in_body : (node : Node) (body : Vec Node Global)
-    → ((x : Bool) × (y : Box Captured Global) × (node ≡ variant.Capture x y body)) ⊎ (((x : Vec SectionFilter Global) × (node ≡ variant.FilterSection x body)) ⊎ (((x : Box ComponentTag Global) × (y : Span) × (node ≡ variant.ComponentCall x body y)) ⊎ ((x : Box Signature Global) × (node ≡ variant.Definition x body))))
+    → ((x : Bool) × (y : Box Captured Global) × (node ≡ variant.Capture x y body)) ⊎ (((x : Vec SectionFilter Global) × (node ≡ variant.FilterSection x body)) ⊎ ((x : Box ComponentTag Global) × (y : Span) × (node ≡ variant.ComponentCall x body y)))
     → blocks (nodes_of body.items) ≡ node_blocks (node_of node)
 blocks_in_body node body (inl p) = ap node_blocks (sym (ap node_of p.2 ∙ view_capture p.0 p.1 body))
 blocks_in_body node body (inr (inl p)) = ap node_blocks (sym (ap node_of p.1 ∙ view_section p.0 body))
-blocks_in_body node body (inr (inr (inl p))) = ap node_blocks (sym (ap node_of p.2 ∙ view_component_call p.0 body p.1))
-blocks_in_body node body (inr (inr (inr p))) = ap node_blocks (sym (ap node_of p.1 ∙ view_definition p.0 body))
+blocks_in_body node body (inr (inr p)) = ap node_blocks (sym (ap node_of p.2 ∙ view_component_call p.0 body p.1))
 
 pub found_in : (file : site.Name) (old new : Kept) (node : Node) (body xs : List Node) (r : Result (Unit {0}) AllocError) → blocks (nodes_of body) ≡ node_blocks (node_of node) → xs ≡ body
     → OnOk r (new ≡ old ++ block_listings file (blocks (nodes_of xs))) → OnOk r (new ≡ old ++ block_listings file (node_blocks (node_of node)))
@@ -66,8 +65,8 @@ found_in_both file old mid new node body other xs ys r in_both a b h w =
     on_ok_by r new _ _ (found_more (block_listing file) old mid (blocks (nodes_of xs)) (blocks (nodes_of ys)) (node_blocks (node_of node)) (sym whole) h) w
 
 -- or itself, and those of its body
-pub blocks_block : (node : Node) (name : Bor (List ℕ)) (body : Vec Node Global) (span : Span) (xs : List Node) → node ≡ variant.Block name body span → xs ≡ body.items → (name.now, nodes_of xs) ∷ blocks (nodes_of xs) ≡ node_blocks (node_of node)
-blocks_block node name body span xs is a =
-    ap (λ x. (name.now, nodes_of x) ∷ blocks (nodes_of x)) a
-    ∙ ap node_blocks (sym (view_block name body span))
+pub blocks_block : (node : Node) (b : Read) (xs : List Node) → node ≡ variant.Block b → xs ≡ b.body.items → (b.name.now, nodes_of xs) ∷ blocks (nodes_of xs) ≡ node_blocks (node_of node)
+blocks_block node b xs is a =
+    ap (λ x. (b.name.now, nodes_of x) ∷ blocks (nodes_of x)) a
+    ∙ ap node_blocks (sym (view_block b))
     ∙ ap (λ n. node_blocks (node_of n)) (sym is)

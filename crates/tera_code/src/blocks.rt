@@ -59,11 +59,10 @@ fn add(alloc: Global, node: &Node, file: &str, found: &mut Vec<Block>) -> Result
         }
         Node::Capture { body, .. }
         | Node::FilterSection { body, .. }
-        | Node::ComponentCall { body, .. }
-        | Node::Definition { body, .. } => add_all(alloc, body.as_slice(), file, found),
-        Node::Block { body, name, .. } => {
-            let body = body.as_slice();
-            put(alloc, body, file, name, found)?;
+        | Node::ComponentCall { body, .. } => add_all(alloc, body.as_slice(), file, found),
+        Node::Block(block) => {
+            let body = block.body.as_slice();
+            put(alloc, body, file, block.name, found)?;
             add_all(alloc, body, file, found)
         }
         _ => Ok(()),

@@ -99,9 +99,8 @@ impl Compiler {
                 self.captured(body, *span, drops)?;
                 self.hand(tag, *span)
             }
-            Node::Block { name, span, .. } => self.take(name, true, *span),
+            Node::Block(block) => self.take(block.name, true, block.span),
             Node::Include { name, span } => self.take(name.as_str(), false, *span),
-            Node::Definition { .. } => Ok(()),
             Node::Break => self.emit(Instruction::LeaveLoop(drops)),
             Node::Continue => self.emit(Instruction::LeaveTurn(drops)),
         }

@@ -4,7 +4,7 @@ use Rattle.std.specs.Prelude.{slice_get}
 use Rattle.tera_errors.specs.declared.span.Span.{Span}
 use Rattle.tera_errors.specs.Site as site
 use Rattle.tera_errors.specs.Fault.{Fault}
-use Rattle.tera_syntax_tree.specs.Tree.{Expr, Nothing, Boolean, Integer, Text, Name, Attribute, Index, Slice, Not, Negate, Binary, And, Or, Ternary, Array, Map, Comprehension, Super, Filter, Test, Call, Component, Node, Content, Print, If, Set, Capture, FilterSection, For, Block, Include, ComponentCall, Definition, Break, Continue, Nodes, NoNodes, MoreNodes}
+use Rattle.tera_syntax_tree.specs.Tree.{Expr, Nothing, Boolean, Integer, Text, Name, Attribute, Index, Slice, Not, Negate, Binary, And, Or, Ternary, Array, Map, Comprehension, Super, Filter, Test, Call, Component, Node, Content, Print, If, Set, Capture, FilterSection, For, Block, Include, ComponentCall, Break, Continue, Nodes, NoNodes, MoreNodes}
 use Rattle.tera_values.specs.Access.{truthy}
 use Rattle.tera_state.specs.Scope.{Turn, Heading, look, dump, assign}
 use Rattle.tera_operators.specs.Operand.{Evaluated}
@@ -133,8 +133,6 @@ module _ (w : World) (place : Place) (code : Code) (below : Below w place) where
         spend w place code (asked_runs w place code (config_at base r) 7 q Written r writes (instruction.TakeInclude name span) (call q r.vars) (omega arith) has.0 refl (below q Written (config_at base r)) (λ after. done w place code (omega arith)))
     node_runs (ComponentCall name attributes body span) drops ip base r fits has =
         handed_runs w place code below name attributes span (nodes_code body (suc drops)) (nodes_meaning here call body) drops ip base r has (λ stands. nodes_runs body (suc drops) (ip + 1) (captured_over r.text base) (writing [] r) fits stands) (λ q at a r1. put_out_runs q (a ∷ base.operands) base r1 drops 4 (output here a) instruction.WriteTop at refl)
-    node_runs (Definition signature body) drops ip base r fits has =
-        let len : ip ≡ ip + 0 = omega arith in arrive_at w place code drops _ len (done w place code (omega arith))
     node_runs Break drops ip base r fits has =
         spend w place code (step w place code _ 7 (leave_leads w place code ip 1 drops base r (instruction.LeaveLoop drops) (omega arith) fits has.0 refl) (done w place code (omega arith)))
     node_runs Continue drops ip base r fits has =

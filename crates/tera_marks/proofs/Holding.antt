@@ -5,9 +5,8 @@ use Rattle.std.specs.List.{AllByRecursion, cons_option}
 use Rattle.std.specs.Option.{option_or}
 use Rattle.tera_errors.specs.Site.{Name}
 use Rattle.tera_errors.specs.Fault.{Fault}
-use Rattle.tera_syntax_tree.specs.Tree.{Signature, Nodes}
+use Rattle.tera_syntax_tree.specs.Tree.{Signature, Nodes, Tree}
 use Rattle.tera_syntax_tree.specs.Blocks.{blocks}
-use Rattle.tera_syntax_tree.specs.Definitions.{definitions}
 use Rattle.tera_values.specs.Named.{Named}
 use Rattle.tera_objects.specs.Engine.{Engine}
 use Rattle.tera_meaning.specs.Registry.{Entry, Registry}
@@ -113,7 +112,7 @@ module _ (P : Entry → Type 0) (r : Registry) (h : AllByRecursion P r.templates
 
 -- of each body of a template
 abbrev pub TemplateHolds : Claim → Engine → Entry → Type 0
-TemplateHolds K engine t = AllByRecursion (BodyHolds K engine) (bodies t.1.tree.nodes)
+TemplateHolds K engine t = AllByRecursion (BodyHolds K engine) (bodies t.1.tree)
 
 abbrev pub DefinerHolds : Claim → Engine → Definer → Type 0
 DefinerHolds K engine d = BodyHolds K engine d.body
@@ -127,14 +126,14 @@ pub record WorldHolds (K : Claim) (w : World) : Type 0 where
   pub beside : AllByRecursion (λ d. BodyHolds K w.registry.engine d.1) w.beside
 
 module _ (K : Claim) (engine : Engine) where
-  blocks-hold : (nodes : Nodes) → AllByRecursion (BodyHolds K engine) (bodies nodes) → AllByRecursion (λ (b : Name × Nodes). BodyHolds K engine b.1) (blocks nodes)
-  blocks-hold nodes h = all-map (BodyHolds K engine) (λ b. b.1) (blocks nodes) (all-left (BodyHolds K engine) (map (λ b. b.1) (blocks nodes)) (map (λ d. d.1) (definitions nodes)) h.1)
+  blocks-hold : (tree : Tree) → AllByRecursion (BodyHolds K engine) (bodies tree) → AllByRecursion (λ (b : Name × Nodes). BodyHolds K engine b.1) (blocks tree.nodes)
+  blocks-hold tree h = all-map (BodyHolds K engine) (λ b. b.1) (blocks tree.nodes) (all-left (BodyHolds K engine) (map (λ b. b.1) (blocks tree.nodes)) (map (λ d. d.1) tree.definitions) h.1)
 
-  pub definitions-hold : (nodes : Nodes) → AllByRecursion (BodyHolds K engine) (bodies nodes) → AllByRecursion (λ (d : Signature × Nodes). BodyHolds K engine d.1) (definitions nodes)
-  definitions-hold nodes h = all-map (BodyHolds K engine) (λ d. d.1) (definitions nodes) (all-right (BodyHolds K engine) (map (λ b. b.1) (blocks nodes)) (map (λ d. d.1) (definitions nodes)) h.1)
+  pub definitions-hold : (tree : Tree) → AllByRecursion (BodyHolds K engine) (bodies tree) → AllByRecursion (λ (d : Signature × Nodes). BodyHolds K engine d.1) tree.definitions
+  definitions-hold tree h = all-map (BodyHolds K engine) (λ d. d.1) tree.definitions (all-right (BodyHolds K engine) (map (λ b. b.1) (blocks tree.nodes)) (map (λ d. d.1) tree.definitions) h.1)
 
   definer_in-holds : (block : Name) (t : Entry) → TemplateHolds K engine t → OptionHolds (DefinerHolds K engine) (definer_in block t)
-  definer_in-holds block t h = go (entry_at block (blocks t.1.tree.nodes)) (entry_at-holds (λ (b : Name × Nodes). BodyHolds K engine b.1) block (blocks t.1.tree.nodes) (blocks-hold t.1.tree.nodes h))
+  definer_in-holds block t h = go (entry_at block (blocks t.1.tree.nodes)) (entry_at-holds (λ (b : Name × Nodes). BodyHolds K engine b.1) block (blocks t.1.tree.nodes) (blocks-hold t.1.tree h))
     where
       go : (o : Option (Name × Nodes)) → OptionHolds (λ (b : Name × Nodes). BodyHolds K engine b.1) o → OptionHolds (DefinerHolds K engine) (option_map (λ b. record { file = t.0; body = b.1 }) o)
       go None k = tt
@@ -154,7 +153,7 @@ module _ (K : Claim) (engine : Engine) where
 
   component_in-holds : (name : Name) (o : Option Entry) → OptionHolds (TemplateHolds K engine) o → OptionHolds (ComponentHolds K engine) (option_and_then (component_in name) o)
   component_in-holds name None h = tt
-  component_in-holds name (Some t) h = component_named-holds t.0 name (definitions t.1.tree.nodes) (definitions-hold t.1.tree.nodes h)
+  component_in-holds name (Some t) h = component_named-holds t.0 name t.1.tree.definitions (definitions-hold t.1.tree h)
 
 -- so of those who define a block, and of components
 module _ (K : Claim) (r : Registry) (h : AllByRecursion (TemplateHolds K r.engine) r.templates) where

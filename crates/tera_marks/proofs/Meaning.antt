@@ -5,7 +5,7 @@ use Rattle.std.specs.List.{cons_option, AllByRecursion}
 use Rattle.tera_errors.specs.Site as site
 use Rattle.tera_errors.specs.declared.span.Span.{Span}
 use Rattle.tera_errors.specs.Fault.{Fault}
-use Rattle.tera_syntax_tree.specs.Tree.{Key, Expr, Nothing, Boolean, Integer, Text, Name, Attribute, Index, Slice, Not, Negate, Binary, And, Or, Ternary, Array, Map, Comprehension, Super, Filter, Test, Call, Component, Optional, Absent, Present, Items, NoItems, MoreItems, Entries, NoEntries, MoreEntries, Arguments, NoArguments, MoreArguments, Filters, NoFilters, MoreFilters, Node, Content, Print, If, Set, Capture, FilterSection, For, Block, Include, ComponentCall, Definition, Break, Continue, Nodes, NoNodes, MoreNodes}
+use Rattle.tera_syntax_tree.specs.Tree.{Key, Expr, Nothing, Boolean, Integer, Text, Name, Attribute, Index, Slice, Not, Negate, Binary, And, Or, Ternary, Array, Map, Comprehension, Super, Filter, Test, Call, Component, Optional, Absent, Present, Items, NoItems, MoreItems, Entries, NoEntries, MoreEntries, Arguments, NoArguments, MoreArguments, Filters, NoFilters, MoreFilters, Node, Content, Print, If, Set, Capture, FilterSection, For, Block, Include, ComponentCall, Break, Continue, Nodes, NoNodes, MoreNodes}
 use Rattle.tera_marks.proofs.Claim.{Claim, TextHolds, CalleeHolds, CallsHold}
 use Rattle.tera_marks.proofs.Each.{Each, none, more, each-append}
 use Rattle.tera_marks.proofs.Standing.{Bears, Stands, nones, bools, ints, texts, arrays, seen-is, bearing-each, unsafe-each, escaped-each, printed-each, OptionStands, no_value, value, ResultStands, answers, refuses}
@@ -343,7 +343,6 @@ module _ {K : Claim} where
           let all = parts (calls body) (entries_calls xs ++ AComponent name ∷ []) h in
           visit-means (bind Same (captured-means (nodes-mean body held all.0)) (λ x y k. go_on-means k.0 (bind Same (entries-mean xs (parts (entries_calls xs) (AComponent name ∷ []) all.1).0) (λ vs ws ks.
           bind Same (component-means name span ks (value (texts true k.1))) (λ a b l. written-means l)))))
-      node-means (Definition s body) held h = gives-means _ _ refl
       node-means Break held h = visit-means (gives-means _ _ refl)
       node-means Continue held h = visit-means (gives-means _ _ refl)
 

@@ -91,9 +91,9 @@ module _ {K : Claim} (r : Registry) (by_html : r.engine.escape ≡ escape_html) 
       → TextStands K (render_str_in marking r reading context flag) (render_str_in plain r reading context flag)
   text-traced (Err fault) context flag h k on = refuses fault
   text-traced (Ok tree) context flag h k on =
-      let world : WorldHolds K (beside r tree) = record { templates = templates; beside = definitions-hold K r.engine tree.nodes h } in
+      let world : WorldHolds K (beside r tree) = record { templates = templates; beside = definitions-hold K r.engine tree h } in
       either (is_some tree.parent || has_a_block tree.nodes) _ _
-      (either (lacks_a_callee r.engine (is_component_beside r tree) tree.nodes || misses_an_include r tree.nodes) _ _
+      (either (lacks_a_callee r.engine (is_component_beside r tree) tree || misses_an_include r tree) _ _
       (traced (nodes-stand (beside r tree) refl world None one_off_name tree.nodes h.0 context k flag by_html global on)))
 
   module _ (context : Named Val) (k : NamesHold K context) where
@@ -128,7 +128,7 @@ pub rendering-stands : (K : Claim) (r : Registry) (call : Rendering) → r.engin
 rendering-stands K r call by_html on held = go call on (all-left (BodyHolds K r.engine) (bodies_read call) (template_bodies r) held.bodies_hold) (all-left (ValueHolds K) (values_given call) (values_named r.global) held.values_hold)
   where
     templates : AllByRecursion (TemplateHolds K r.engine) r.templates
-    templates = all-each (BodyHolds K r.engine) (λ t. bodies t.1.tree.nodes) r.templates (all-right (BodyHolds K r.engine) (bodies_read call) (template_bodies r) held.bodies_hold)
+    templates = all-each (BodyHolds K r.engine) (λ t. bodies t.1.tree) r.templates (all-right (BodyHolds K r.engine) (bodies_read call) (template_bodies r) held.bodies_hold)
 
     global : NamesHold K r.global
     global = all-map (ValueHolds K) (λ v. v.1) r.global (all-right (ValueHolds K) (values_given call) (values_named r.global) held.values_hold)

@@ -44,10 +44,10 @@ escapes r (of_component name given implicits body autoescape) = autoescape
 
 -- all bodies of the templates, and of a text beside them
 abbrev pub template_bodies : Registry → List Nodes
-template_bodies r = flat_map (λ t. bodies t.1.tree.nodes) r.templates
+template_bodies r = flat_map (λ t. bodies t.1.tree) r.templates
 
 abbrev pub bodies_read : Rendering → List Nodes
-bodies_read (of_text (Ok tree) context autoescape) = bodies tree.nodes
+bodies_read (of_text (Ok tree) context autoescape) = bodies tree
 bodies_read other = []
 
 -- a body that is handed in is a safe text

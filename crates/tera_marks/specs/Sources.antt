@@ -3,7 +3,7 @@ use Rattle.std.specs.Prelude.{◌≡◌, ℕ, Bool, true, false, nat_eq, IsTrue,
 use Rattle.std.specs.List.{list_any}
 use Rattle.tera_errors.specs.Site.{Text, Name}
 use Rattle.tera_errors.specs.Fault.{Fault}
-use Rattle.tera_syntax_tree.specs.Tree.{Node, Content, Print, If, Set, Capture, FilterSection, For, Block, Include, ComponentCall, Definition, Break, Continue, Nodes, NoNodes, MoreNodes}
+use Rattle.tera_syntax_tree.specs.Tree.{Node, Content, Print, If, Set, Capture, FilterSection, For, Block, Include, ComponentCall, Break, Continue, Nodes, NoNodes, MoreNodes}
 use Rattle.tera_syntax_tree.specs.Calls as called
 use Rattle.tera_syntax_tree.specs.Calls.{AFilter, calls}
 use Rattle.tera_values.specs.Alphabet.{Mark, template, marked_safe, escaped, made, outside, Marked}
@@ -16,7 +16,7 @@ use Rattle.tera_objects.specs.Engine.{Engine, OwnFilter, OwnFunction, Callee, ow
 use Rattle.tera_objects.specs.Calling.{answer_of}
 use Rattle.tera_marks.specs.Origin.{is_markup}
 
--- the texts between the tags of a body; blocks and components are bodies of their own
+-- the texts between the tags of a body; blocks are bodies of their own
 abbrev mutual
   pub node_contents : Node → List Text
   node_contents (Content t span) = t ∷ []
@@ -29,7 +29,6 @@ abbrev mutual
   node_contents (Block n body span) = []
   node_contents (Include n span) = []
   node_contents (ComponentCall n all body span) = contents body
-  node_contents (Definition s body) = []
   node_contents Break = []
   node_contents Continue = []
 

@@ -11,7 +11,7 @@ use Rattle.tera_syntax_tree.specs.Tree.{Nodes}
 use Rattle.tera_syntax_tree.specs.Delimiters.{Delims}
 use Rattle.tera_syntax_tree.specs.Blocks.{top_blocks}
 use Rattle.tera_syntax_tree.specs.Calls.{Callee, AFilter, ATest, AFunction, AComponent, calls}
-use Rattle.tera_syntax_tree.specs.Includes.{includes}
+use Rattle.tera_syntax_tree.specs.Includes.{tree_includes}
 use Rattle.tera_objects.specs.Engine.{Engine}
 use Rattle.tera_objects.specs.Laws.{OnlyAdds}
 use Rattle.tera_meaning.specs.Registry.{Entry, Registry, Template}
@@ -151,13 +151,13 @@ module _ (r : Registry) (suffixes : List Text) (delimiters : Delims) (global : N
 
     lacks-fewer : (t : Entry) → lacks_something r t ≡ false → lacks_something other t ≡ false
     lacks-fewer t h =
-        let nodes = t.1.tree.nodes in
-        let callee = lacks_a_callee r.engine (is_component r) nodes in
-        let first = or-false (loses_a_block r t) (callee || misses_an_include r nodes) h in
-        let rest = or-false callee (misses_an_include r nodes) first.1 in
-        both-false (loses_a_block other t) (lacks_a_callee engine (is_component other) nodes || misses_an_include other nodes) first.0
-        (both-false (lacks_a_callee engine (is_component other) nodes) (misses_an_include other nodes)
-        (list_any-fewer (has_unknown r.engine (is_component r)) (has_unknown engine (is_component other)) (bodies nodes) unknown-fewer rest.0) rest.1)
+        let tree = t.1.tree in
+        let callee = lacks_a_callee r.engine (is_component r) tree in
+        let first = or-false (loses_a_block r t) (callee || misses_an_include r tree) h in
+        let rest = or-false callee (misses_an_include r tree) first.1 in
+        both-false (loses_a_block other t) (lacks_a_callee engine (is_component other) tree || misses_an_include other tree) first.0
+        (both-false (lacks_a_callee engine (is_component other) tree) (misses_an_include other tree)
+        (list_any-fewer (has_unknown r.engine (is_component r)) (has_unknown engine (is_component other)) (bodies tree) unknown-fewer rest.0) rest.1)
 
     pub stays : fault r ≡ None → fault other ≡ None
     stays h =
@@ -214,19 +214,19 @@ some-left (d ∷ ds) h e = (cc)
 
 names-there : (r : Registry) (t : Entry) → fault_of_parents (parents r t) ≡ None → lacks_something r t ≡ false → NamesWhatIsThere r t
 names-there r t there h =
-    let nodes = t.1.tree.nodes in
-    let callee = lacks_a_callee r.engine (is_component r) nodes in
-    let first = or-false (loses_a_block r t) (callee || misses_an_include r nodes) h in
-    let rest = or-false callee (misses_an_include r nodes) first.1 in
+    let tree = t.1.tree in
+    let callee = lacks_a_callee r.engine (is_component r) tree in
+    let first = or-false (loses_a_block r t) (callee || misses_an_include r tree) h in
+    let rest = or-false callee (misses_an_include r tree) first.1 in
     record {
       parents = parents-there (parents r t) there;
       calls = λ k body lt j c lt'.
-          not-false (is_known r.engine (is_component r) (get_or (calls (get_or (bodies nodes) k body)) j c))
-          (list_any-none (λ c. not (is_known r.engine (is_component r) c)) (calls (get_or (bodies nodes) k body)) (list_any-none (has_unknown r.engine (is_component r)) (bodies nodes) rest.0 k body lt) j c lt');
-      includes = λ k name lt. is-there (resolve r (get_or (includes nodes) k name)) (list_any-none (λ n. is_none (resolve r n)) (includes nodes) rest.1 k name lt);
+          not-false (is_known r.engine (is_component r) (get_or (calls (get_or (bodies tree) k body)) j c))
+          (list_any-none (λ c. not (is_known r.engine (is_component r) c)) (calls (get_or (bodies tree) k body)) (list_any-none (has_unknown r.engine (is_component r)) (bodies tree) rest.0 k body lt) j c lt');
+      includes = λ k name lt. is-there (resolve r (get_or (tree_includes tree) k name)) (list_any-none (λ n. is_none (resolve r n)) (tree_includes tree) rest.1 k name lt);
       blocks = λ extends k block lt.
-          some-left (definers_in (get_or (top_blocks nodes) k block) (ancestors r t))
-          (list_any-none (is_lost r t) (top_blocks nodes) (under-some t.1.tree.parent (list_any (is_lost r t) (top_blocks nodes)) extends first.0) k block lt);
+          some-left (definers_in (get_or (top_blocks tree.nodes) k block) (ancestors r t))
+          (list_any-none (is_lost r t) (top_blocks tree.nodes) (under-some t.1.tree.parent (list_any (is_lost r t) (top_blocks tree.nodes)) extends first.0) k block lt);
     }
 
 pub nothing_is_missing : NothingIsMissing

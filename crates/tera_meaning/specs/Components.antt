@@ -5,7 +5,7 @@ use Rattle.std.specs.List.Sorted.{IsStrictlySortedBy}
 use Rattle.tera_errors.specs.Site.{Name}
 use Rattle.tera_syntax_tree.specs.Tree.{Signature, Nodes}
 use Rattle.tera_syntax_tree.specs.Blocks.{is_among}
-use Rattle.tera_syntax_tree.specs.Definitions.{definitions, component_names}
+use Rattle.tera_syntax_tree.specs.Definitions.{component_names}
 use Rattle.tera_values.specs.Named.{name_cmp}
 use Rattle.tera_meaning.specs.Registry.{Entry, Registry}
 
@@ -24,10 +24,10 @@ component_named file name (d ∷ ds) =
     else component_named file name ds
 
 abbrev pub component_in : Name → Entry → Option Component
-component_in name t = component_named t.0 name (definitions t.1.tree.nodes)
+component_in name t = component_named t.0 name t.1.tree.definitions
 
 abbrev pub defines : Name → Entry → Bool
-defines name t = is_among name (component_names t.1.tree.nodes)
+defines name t = is_among name (component_names t.1.tree.definitions)
 
 -- 0 where no prefix begins the name of a template, else 1 and the place of the first that does;
 -- less is better
@@ -71,7 +71,7 @@ is_tie r before t name =
     list_any (is_as_good r t) ds && not (list_any (λ s. is_better r s t) ds)
 
 abbrev pub has_a_tie : Registry → List Entry → Entry → Bool
-has_a_tie r before t = list_any (is_tie r before t) (component_names t.1.tree.nodes)
+has_a_tie r before t = list_any (is_tie r before t) (component_names t.1.tree.definitions)
 
 -- the name of a text that is rendered beside the registry
 abbrev pub one_off_name : Name

@@ -7,7 +7,7 @@ use Rattle.tera_values.specs.Val.{Val}
 use Rattle.tera_values.specs.Named.{Named}
 use Rattle.tera_syntax_tree.specs.Blocks.{top_blocks}
 use Rattle.tera_syntax_tree.specs.Calls.{calls}
-use Rattle.tera_syntax_tree.specs.Includes.{includes}
+use Rattle.tera_syntax_tree.specs.Includes.{tree_includes}
 use Rattle.tera_objects.specs.Engine.{Engine}
 use Rattle.tera_objects.specs.Laws.{OnlyAdds}
 use Rattle.tera_meaning.specs.Registry.{Entry, Registry, Template}
@@ -43,8 +43,8 @@ EmptyBatchIsAccepted = (r : Registry) → IsAccepted r → added r (Ok []) ≡ O
 pub record NamesWhatIsThere (r : Registry) (t : Entry) : Type 0 where
   pub parents : (ts : List Entry) × (parents r t ≡ Ok ts)
   pub calls : All (λ body. All (λ callee. IsTrue (is_known r.engine (is_component r) callee))
-      (calls body)) (bodies t.1.tree.nodes)
-  pub includes : All (λ name. IsSome (resolve r name)) (includes t.1.tree.nodes)
+      (calls body)) (bodies t.1.tree)
+  pub includes : All (λ name. IsSome (resolve r name)) (tree_includes t.1.tree)
   pub blocks : IsSome t.1.tree.parent
       → All (λ block. definers_in block (ancestors r t) ≢ []) (top_blocks t.1.tree.nodes)
 

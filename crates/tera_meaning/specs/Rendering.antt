@@ -12,7 +12,6 @@ use Rattle.tera_state.specs.Scope.{AroundOf, Around, outside, in_component, look
 use Rattle.tera_meaning.specs.Run.{Signal, Answer, AnswerOf, Failed, Gave}
 use Rattle.tera_meaning.specs.Registry.{Entry, Registry}
 use Rattle.tera_meaning.specs.Resolve.{resolve, root}
-use Rattle.tera_syntax_tree.specs.Definitions.{definitions}
 use Rattle.tera_components.specs.Context.{component_context_in}
 use Rattle.tera_meaning.specs.Components.{Component, component, one_off_name}
 use Rattle.tera_meaning.specs.Known.{lacks_a_callee}
@@ -39,7 +38,7 @@ alone r = record { registry = r; beside = [] }
 
 -- with the components of a text beside the registry
 abbrev pub beside : Registry → Tree → World
-beside r tree = record { registry = r; beside = definitions tree.nodes }
+beside r tree = record { registry = r; beside = tree.definitions }
 
 -- whether texts are escaped in a template of this name
 abbrev pub autoescapes : Registry → Name → Bool
@@ -82,8 +81,7 @@ module _ {C : Type 0} (alphabet : Alphabet C) where
   -- the text of a tree that calls and includes nothing that is not there
   abbrev pub one_off_text_in : Registry → Tree → Named Val → Bool → Result (List C) Fault
   one_off_text_in r tree context autoescape =
-      if lacks_a_callee r.engine (is_component_beside r tree) tree.nodes
-      || misses_an_include r tree.nodes
+      if lacks_a_callee r.engine (is_component_beside r tree) tree || misses_an_include r tree
       then Err message
       else text_of (one_off_meaning_in r tree context autoescape)
 

@@ -9,7 +9,6 @@ use Rattle.std.proofs.lemmas.Simd.{map-map}
 use mathlib.Core.Path.{fun_ext}
 use Rattle.tera_errors.specs.Site.{Name}
 use Rattle.tera_syntax_tree.specs.Tree.{Signature, Nodes}
-use Rattle.tera_syntax_tree.specs.Definitions.{definitions}
 use Rattle.tera_objects.specs.Engine.{Engine}
 use Rattle.tera_meaning.specs.Registry.{Registry, Entry}
 use Rattle.tera_meaning.specs.Lineage.{ancestors}
@@ -42,15 +41,15 @@ module _ (r : Registry) where
   kept-aboves : (t : Stored) → None ∷ (map (above_block r (entry_of t)) t.blocks.items ++ map (λ _. None) t.components.items) ≡ map (above_in r) (blocks_in (entry_of t))
   kept-aboves t =
       let e = entry_of t in
-      let nodes = e.1.tree.nodes in
+      let definitions = e.1.tree.definitions in
       let of_block : Name × Nodes → Option Standing = λ b. Some (e, b) in
       let of_component : Signature × Nodes → Option Standing = λ d. None in
       let bs = map of_block (blocks_of e) in
-      let ds = map of_component (definitions nodes) in
+      let ds = map of_component definitions in
       let none : Option ℕ = None in
-      let many : length t.components.items ≡ length (definitions nodes) = omega (arith, ap length t.defined, length-map t.components.items kept_of, length-map (definitions nodes) (kept_as e.0)) in
+      let many : length t.components.items ≡ length definitions = omega (arith, ap length t.defined, length-map t.components.items kept_of, length-map definitions (kept_as e.0)) in
       let of_blocks = kept-block-aboves e t.blocks.items (block-names t.blocks.items e.0 (blocks_of e) t.divided) in
-      let of_components = consts none t.components.items (definitions nodes) many ∙ sym (map-map (above_in r) of_component (definitions nodes)) in
+      let of_components = consts none t.components.items definitions many ∙ sym (map-map (above_in r) of_component definitions) in
       ap (λ l. None ∷ l) (ap₂ (λ x y. x ++ y) of_blocks of_components ∙ sym (map-append (above_in r) bs ds))
 
   -- its own body, its blocks and its components, one behind the other

@@ -55,7 +55,7 @@ first-same r before (t ∷ es) =
 pub chosen-same : (r : Registry) (n : Name) (position : ℕ) (ts : List Entry) (old : Option Choice) → chosen_from (bare r.templates r.prefixes) n position ts old ≡ chosen_from r n position ts old
 chosen-same r n position [] old = refl
 chosen-same r n position (t ∷ ts) old =
-    chosen-same r n (suc position) ts (chosen_in n position (priority r t.0) 0 (component_names t.1.tree.nodes) old)
+    chosen-same r n (suc position) ts (chosen_in n position (priority r t.0) 0 (component_names t.1.tree.definitions) old)
 
 -- With the engine they decide on the rest as well.
 

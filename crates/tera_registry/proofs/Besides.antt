@@ -7,7 +7,6 @@ use Rattle.std.specs.Option.{option_or}
 use Rattle.tera_errors.specs.Site.{Name}
 use Rattle.tera_syntax_tree.specs.Tree.{Tree, Signature, Nodes}
 use Rattle.tera_syntax_tree.specs.Blocks as in_tree
-use Rattle.tera_syntax_tree.specs.Definitions.{definitions}
 use Rattle.tera_code.specs.Listing.{Listing}
 use Rattle.tera_code.specs.Code.{nodes_code}
 use Rattle.tera_objects.specs.Engine.{Engine}
@@ -44,14 +43,14 @@ either-there : (a b : Option Component) → is_some (option_or a b) ≡ (is_some
 either-there None b = refl
 either-there (Some c) b = refl
 
-there-beside : (r : Registry) (tree : Tree) (file : Name) (choices : BTreeMap (String Global) Choice Global) (own : List Kept) → AreChosen r choices → map kept_of own ≡ kept_all file tree.nodes → (n : Name) → is_there choices own n ≡ is_component_beside r tree n
+there-beside : (r : Registry) (tree : Tree) (file : Name) (choices : BTreeMap (String Global) Choice Global) (own : List Kept) → AreChosen r choices → map kept_of own ≡ kept_all file tree.definitions → (n : Name) → is_there choices own n ≡ is_component_beside r tree n
 there-beside r tree file choices own known kept n =
     let of_all : is_some (chosen choices n) ≡ is_some (component r n) = ap is_some (known n) ∙ taken-there r n (chosen_of r n) refl in
-    let of_own = own-there n own ∙ ap (list_any (λ m. bytes_eq n m)) (kept-names-are file tree.nodes own kept) ∙ named-there one_off_name n (definitions tree.nodes) in
-    ap₂ (λ x y. x || y) of_all of_own ∙ sym (either-there (component r n) (component_named one_off_name n (definitions tree.nodes)))
+    let of_own = own-there n own ∙ ap (list_any (λ m. bytes_eq n m)) (kept-names-are file tree.definitions own kept) ∙ named-there one_off_name n tree.definitions in
+    ap₂ (λ x y. x || y) of_all of_own ∙ sym (either-there (component r n) (component_named one_off_name n tree.definitions))
 
-pub beside-lacks : (r : Registry) (engine : Engine) (tree : Tree) (file : Name) (choices : BTreeMap (String Global) Choice Global) (own : List Kept) (body : Listing) → AreChosen r choices → r.engine ≡ engine → body.code ≡ nodes_code tree.nodes 0 → map kept_of own ≡ kept_all file tree.nodes → in_tree.blocks tree.nodes ≡ []
-    → (code_lacks engine (is_there choices own) body.code || list_any (λ c. code_lacks engine (is_there choices own) c.code.value.chunk.code) own) ≡ lacks_a_callee r.engine (is_component_beside r tree) tree.nodes
+pub beside-lacks : (r : Registry) (engine : Engine) (tree : Tree) (file : Name) (choices : BTreeMap (String Global) Choice Global) (own : List Kept) (body : Listing) → AreChosen r choices → r.engine ≡ engine → body.code ≡ nodes_code tree.nodes 0 → map kept_of own ≡ kept_all file tree.definitions → in_tree.blocks tree.nodes ≡ []
+    → (code_lacks engine (is_there choices own) body.code || list_any (λ c. code_lacks engine (is_there choices own) c.code.value.chunk.code) own) ≡ lacks_a_callee r.engine (is_component_beside r tree) tree
 beside-lacks r engine tree file choices own body known of code kept none =
     let there : is_there choices own ≡ is_component_beside r tree = fun_ext (there-beside r tree file choices own known kept) in
-    codes_lack_as_tree engine (is_there choices own) file body own tree.nodes code kept none ∙ ap₂ (λ e f. lacks_a_callee e f tree.nodes) (sym of) there
+    codes_lack_as_tree engine (is_there choices own) file body own tree code kept none ∙ ap₂ (λ e f. lacks_a_callee e f tree) (sym of) there

@@ -1,13 +1,13 @@
 -- What is found in one body and then in another.
-use Rattle.std.proofs.Common.{◌≡◌, ◌⊎◌, inl, inr, ℕ, Bool, ◌||◌, Bor, List, ◌++◌, Vec, Box, Global, sym, ap, ap₂, ◌∙◌, append_assoc, Result, Ok, Err, OnOk}
+use Rattle.std.proofs.Common.{◌≡◌, ◌⊎◌, inl, inr, Bool, ◌||◌, List, ◌++◌, Vec, Box, Global, sym, ap, ap₂, ◌∙◌, append_assoc, Result, Ok, Err, OnOk}
 use Rattle.std.specs.List.{list_any}
 use Rattle.std.proofs.lemmas.List.Folds.{list_any-append}
 use Rattle.tera_errors.specs.Site as site
 use Rattle.tera_errors.specs.declared.span.Span.{Span}
-use Rattle.tera_syntax_tree.specs.declared.component.Signature.{Signature}
 use Rattle.tera_syntax_tree.specs.declared.expression.ComponentTag.{ComponentTag}
 use Rattle.tera_syntax_tree.specs.declared.expression.Expression.{Expression}
 use Rattle.tera_syntax_tree.specs.declared.expression.Heading.{Heading}
+use Rattle.tera_syntax_tree.specs.declared.node.Block.{Block}
 use Rattle.tera_syntax_tree.specs.declared.node.Captured.{Captured}
 use Rattle.tera_syntax_tree.specs.declared.node.Node.{Node}
 use Rattle.tera_syntax_tree.specs.declared.node.Node.TheVariants as variant
@@ -20,7 +20,7 @@ use Rattle.tera_syntax_tree.specs.Blocks.{top_blocks, node_top_blocks}
 use Rattle.tera_registry.specs.declared.naming.Naming.{Naming}
 use Rattle.tera_registry.specs.declared.naming.Naming.TheVariants as naming
 use Rattle.tera_registry.specs.Naming.{named, node_named}
-use Rattle.tera_syntax_tree.proofs.Views.{view_block, view_capture, view_component_call, view_definition, view_for, view_if, view_section}
+use Rattle.tera_syntax_tree.proofs.Views.{view_block, view_capture, view_component_call, view_for, view_if, view_section}
 
 abbrev found_by_both : tree.Node → List site.Name × List site.Name
 found_by_both n = (node_includes n, node_top_blocks n)
@@ -47,19 +47,17 @@ found_in_both walk whole old mid new body other xs ys r in_both a b h w =
 
 abbrev HasBody : Node → Vec Node Global → Type 0
 HasBody node body =
-    ((x : Bool) × (y : Box Captured Global) × (node ≡ variant.Capture x y body)) ⊎ (((x : Vec SectionFilter Global) × (node ≡ variant.FilterSection x body)) ⊎ (((x : Box ComponentTag Global) × (y : Span) × (node ≡ variant.ComponentCall x body y)) ⊎ ((x : Box Signature Global) × (node ≡ variant.Definition x body))))
+    ((x : Bool) × (y : Box Captured Global) × (node ≡ variant.Capture x y body)) ⊎ (((x : Vec SectionFilter Global) × (node ≡ variant.FilterSection x body)) ⊎ ((x : Box ComponentTag Global) × (y : Span) × (node ≡ variant.ComponentCall x body y)))
 
 -- a node with one body has what is in that, in both walks
 pub in_body : (node : Node) (body : Vec Node Global) → HasBody node body → (includes (nodes_of body.items), top_blocks (nodes_of body.items)) ≡ found_by_both (node_of node)
 in_body node body (inl p) = ap found_by_both (sym (ap node_of p.2 ∙ view_capture p.0 p.1 body))
 in_body node body (inr (inl p)) = ap found_by_both (sym (ap node_of p.1 ∙ view_section p.0 body))
-in_body node body (inr (inr (inl p))) = ap found_by_both (sym (ap node_of p.2 ∙ view_component_call p.0 body p.1))
-in_body node body (inr (inr (inr p))) = ap found_by_both (sym (ap node_of p.1 ∙ view_definition p.0 body))
+in_body node body (inr (inr p)) = ap found_by_both (sym (ap node_of p.2 ∙ view_component_call p.0 body p.1))
 
 -- in the one that looks into blocks, a block as well
-pub includes_in_body : (node : Node) (body : Vec Node Global) → ((x : Bor (List ℕ)) × (y : Span) × (node ≡ variant.Block x body y)) ⊎ HasBody node body → includes (nodes_of body.items) ≡ node_includes (node_of node)
-includes_in_body node body (inl p) = ap node_includes (sym (ap node_of p.2 ∙ view_block p.0 body p.1))
-includes_in_body node body (inr p) = ap (λ x. x.0) (in_body node body p)
+pub includes_in_block : (node : Node) (b : Block) → node ≡ variant.Block b → includes (nodes_of b.body.items) ≡ node_includes (node_of node)
+includes_in_block node b is = ap node_includes (sym (ap node_of is ∙ view_block b))
 
 -- or what is in both of its bodies
 pub in_both : (node : Node) (body other : Vec Node Global) → ((x : Box Expression Global) × (node ≡ variant.If x body other)) ⊎ ((x : Box Heading Global) × (node ≡ variant.For x body other))
@@ -72,8 +70,8 @@ pub named_in_body : (walk : Naming) (node : Node) (body : Vec Node Global) → H
 named_in_body naming.Includes node body p = ap (λ x. x.0) (in_body node body p)
 named_in_body naming.TopBlocks node body p = ap (λ x. x.1) (in_body node body p)
 
-pub named_in_block : (walk : Naming) (node : Node) (name : Bor (List ℕ)) (body : Vec Node Global) (span : Span) → walk ≡ naming.Includes → node ≡ variant.Block name body span → named walk (nodes_of body.items) ≡ node_named walk (node_of node)
-named_in_block walk node name body span is e = rw is (includes_in_body node body (inl (name, span, e)))
+pub named_in_block : (walk : Naming) (node : Node) (b : Block) → walk ≡ naming.Includes → node ≡ variant.Block b → named walk (nodes_of b.body.items) ≡ node_named walk (node_of node)
+named_in_block walk node b is e = rw is (includes_in_block node b e)
 
 pub named_in_both : (walk : Naming) (node : Node) (body other : Vec Node Global) → ((x : Box Expression Global) × (node ≡ variant.If x body other)) ⊎ ((x : Box Heading Global) × (node ≡ variant.For x body other)) → named walk (nodes_of body.items) ++ named walk (nodes_of other.items) ≡ node_named walk (node_of node)
 named_in_both naming.Includes node body other p = ap (λ x. x.0) (in_both node body other p)

@@ -11,8 +11,8 @@ use Rattle.std.proofs.lemmas.Simd.{map-map}
 use Rattle.tera_registry.specs.declared.components.Component.{Component}
 use Rattle.tera_registry.specs.Components.{kept_of, kept_as, kept_all, kept_names}
 use Rattle.tera_errors.specs.Site.{Name}
-use Rattle.tera_syntax_tree.specs.Tree.{Nodes}
-use Rattle.tera_syntax_tree.specs.Definitions.{definitions, component_names}
+use Rattle.tera_syntax_tree.specs.Tree.{Definitions}
+use Rattle.tera_syntax_tree.specs.Definitions.{component_names}
 use Rattle.tera_meaning.specs.Registry.{Entry, Registry}
 use Rattle.tera_meaning.specs.Components.{priority, is_tie}
 use Rattle.tera_registry.specs.declared.choices.Choice.{Choice}
@@ -66,30 +66,30 @@ pub chosen-all-names : (q : Name) (position p k : ℕ) (names : List Name) (old 
 chosen-all-names q position p k names old over = ap (λ ns. chosen_in q position p k ns old) (drop_all k names over)
 
 -- one template more
-pub chosen-push : (r : Registry) (q : Name) (position : ℕ) (ts : List Entry) (t : Entry) (old : Option Choice) → chosen_from r q position (ts ++ t ∷ []) old ≡ chosen_in q (position + length ts) (priority r t.0) 0 (component_names t.1.tree.nodes) (chosen_from r q position ts old)
+pub chosen-push : (r : Registry) (q : Name) (position : ℕ) (ts : List Entry) (t : Entry) (old : Option Choice) → chosen_from r q position (ts ++ t ∷ []) old ≡ chosen_in q (position + length ts) (priority r t.0) 0 (component_names t.1.tree.definitions) (chosen_from r q position ts old)
 chosen-push r q position [] t old =
     let e : position ≡ position + 0 = omega arith in
-    ap (λ i. chosen_in q i (priority r t.0) 0 (component_names t.1.tree.nodes) old) e
+    ap (λ i. chosen_in q i (priority r t.0) 0 (component_names t.1.tree.definitions) old) e
 chosen-push r q position (u ∷ ts) t old =
-    let next = chosen_in q position (priority r u.0) 0 (component_names u.1.tree.nodes) old in
+    let next = chosen_in q position (priority r u.0) 0 (component_names u.1.tree.definitions) old in
     let e : suc position + length ts ≡ position + length (u ∷ ts) = omega arith in
-    chosen-push r q (suc position) ts t next ∙ ap (λ i. chosen_in q i (priority r t.0) 0 (component_names t.1.tree.nodes) (chosen_from r q (suc position) ts next)) e
+    chosen-push r q (suc position) ts t next ∙ ap (λ i. chosen_in q i (priority r t.0) 0 (component_names t.1.tree.definitions) (chosen_from r q (suc position) ts next)) e
 
 pub name-at : (cs : List Component) (k : ℕ) (c : Component) → k < length cs → c ≡ get_or cs k c → slice_get (kept_names cs) k ≡ Some c.definition.name
 name-at cs k c lt is =
     slice_get-map (λ (c : Component). c.definition.name) cs k ∙ ap (option_map (λ (c : Component). c.definition.name)) (slice_get_read cs (length cs) k c refl lt is)
 
-pub chosen-next : (r : Registry) (q : Name) (position : ℕ) (t : Entry) → slice_get r.templates position ≡ Some t → chosen_in q position (priority r t.0) 0 (component_names t.1.tree.nodes) (chosen_from r q 0 (take position r.templates) None) ≡ chosen_from r q 0 (take (position + 1) r.templates) None
+pub chosen-next : (r : Registry) (q : Name) (position : ℕ) (t : Entry) → slice_get r.templates position ≡ Some t → chosen_in q position (priority r t.0) 0 (component_names t.1.tree.definitions) (chosen_from r q 0 (take position r.templates) None) ≡ chosen_from r q 0 (take (position + 1) r.templates) None
 chosen-next r q position t at =
     let before = take position r.templates in
     let here : 0 + length before ≡ position = omega (arith, length-take position r.templates, slice_get_within r.templates position t at) in
-    sym (chosen-push r q 0 before t None ∙ ap (λ i. chosen_in q i (priority r t.0) 0 (component_names t.1.tree.nodes) (chosen_from r q 0 before None)) here) ∙ ap (λ l. chosen_from r q 0 l None) (take-more r.templates position t at)
+    sym (chosen-push r q 0 before t None ∙ ap (λ i. chosen_in q i (priority r t.0) 0 (component_names t.1.tree.definitions) (chosen_from r q 0 before None)) here) ∙ ap (λ l. chosen_from r q 0 l None) (take-more r.templates position t at)
 
 -- The names of the components that are kept.
 
-pub kept-names-are : (file : Name) (nodes : Nodes) (cs : List Component) → map kept_of cs ≡ kept_all file nodes → kept_names cs ≡ component_names nodes
-kept-names-are file nodes cs e =
-    sym (map-map (λ k. k.0.name) kept_of cs) ∙ ap (map (λ k. k.0.name)) e ∙ map-map (λ k. k.0.name) (kept_as file) (definitions nodes)
+pub kept-names-are : (file : Name) (definitions : Definitions) (cs : List Component) → map kept_of cs ≡ kept_all file definitions → kept_names cs ≡ component_names definitions
+kept-names-are file definitions cs e =
+    sym (map-map (λ k. k.0.name) kept_of cs) ∙ ap (map (λ k. k.0.name)) e ∙ map-map (λ k. k.0.name) (kept_as file) definitions
 
 any-over : (f : Name → Bool) (cs : List Component) → list_any (λ c. f c.definition.name) cs ≡ list_any f (kept_names cs)
 any-over f [] = refl
@@ -100,6 +100,6 @@ any-same f g [] same = refl
 any-same f g (n ∷ ns) same = ap (λ b. b || list_any f ns) (same n) ∙ ap (λ b. g n || b) (any-same f g ns same)
 
 -- a template that ties with what was taken before it
-pub ties-is : (r : Registry) (position : ℕ) (t : Entry) (cs : List Component) (taken : BTreeMap (String Global) Choice Global) (p : ℕ) → kept_names cs ≡ component_names t.1.tree.nodes → p ≡ priority r t.0 → ((q : Name) → chosen taken q ≡ chosen_from r q 0 (take position r.templates) None) → list_any (λ c. is_tied (chosen taken c.definition.name) p) cs ≡ ties_at r position t
+pub ties-is : (r : Registry) (position : ℕ) (t : Entry) (cs : List Component) (taken : BTreeMap (String Global) Choice Global) (p : ℕ) → kept_names cs ≡ component_names t.1.tree.definitions → p ≡ priority r t.0 → ((q : Name) → chosen taken q ≡ chosen_from r q 0 (take position r.templates) None) → list_any (λ c. is_tied (chosen taken c.definition.name) p) cs ≡ ties_at r position t
 ties-is r position t cs taken p names good known =
-    any-over (λ n. is_tied (chosen taken n) p) cs ∙ ap (list_any (λ n. is_tied (chosen taken n) p)) names ∙ any-same _ (is_tie r (take position r.templates) t) (component_names t.1.tree.nodes) (λ n. ap (λ o. is_tied o p) (known n) ∙ ap (is_tied (chosen_from r n 0 (take position r.templates) None)) good ∙ tie-of r n position t)
+    any-over (λ n. is_tied (chosen taken n) p) cs ∙ ap (list_any (λ n. is_tied (chosen taken n) p)) names ∙ any-same _ (is_tie r (take position r.templates) t) (component_names t.1.tree.definitions) (λ n. ap (λ o. is_tied o p) (known n) ∙ ap (is_tied (chosen_from r n 0 (take position r.templates) None)) good ∙ tie-of r n position t)

@@ -4,7 +4,7 @@ use Rattle.std.proofs.lemmas.Bool.{cases_Bool, ltb-true}
 use Rattle.tera_errors.specs.Site.{Name}
 use Rattle.tera_syntax_tree.specs.Tree.{Signature, Nodes}
 use Rattle.tera_syntax_tree.specs.Blocks.{is_among}
-use Rattle.tera_syntax_tree.specs.Definitions.{definitions, component_names}
+use Rattle.tera_syntax_tree.specs.Definitions.{component_names}
 use Rattle.tera_meaning.specs.Registry.{Entry, Registry}
 use Rattle.tera_meaning.specs.Components.{component_named, component_in, priority, defines, better, best_from, is_better, definer_of, is_tie}
 use Rattle.tera_registry.specs.declared.choices.Choice.{Choice}
@@ -14,7 +14,7 @@ use Rattle.tera_registry.proofs.Best.{ties_with, tie-best}
 -- there stands the first component of this name in a template
 pub record IsComponent (n : Name) (t : Entry) (k : ℕ) : Type 0 where
   pub definition : Signature × Nodes
-  pub at : slice_get (definitions t.1.tree.nodes) k ≡ Some definition
+  pub at : slice_get t.1.tree.definitions k ≡ Some definition
   pub is : component_in n t ≡ Some (record { file = t.0; signature = definition.0; body = definition.1 })
 
 -- what is taken by position is the definition of this template
@@ -97,9 +97,9 @@ first-of n file (d ∷ ds) = by_name (bytes_eq n d.0.name) refl (first_among n (
         (f.0, f.1, ap (λ b. if b then Some (record { file = file; signature = d.0; body = d.1 }) else component_named file n ds) e ∙ f.2, ap (λ b. b || is_among n (names_of ds)) e ∙ f.3)
 
 -- one template more
-chosen-step : (r : Registry) (n : Name) (position : ℕ) (t : Entry) (c : Option Choice) (o : Option Entry) → slice_get r.templates position ≡ Some t → IsChosen r n c o → IsChosen r n (chosen_in n position (priority r t.0) 0 (component_names t.1.tree.nodes) c) (if defines n t then better r o t else o)
+chosen-step : (r : Registry) (n : Name) (position : ℕ) (t : Entry) (c : Option Choice) (o : Option Entry) → slice_get r.templates position ≡ Some t → IsChosen r n c o → IsChosen r n (chosen_in n position (priority r t.0) 0 (component_names t.1.tree.definitions) c) (if defines n t then better r o t else o)
 chosen-step r n position t c o at is =
-    rw (chosen-first n position (priority r t.0) 0 (component_names t.1.tree.nodes) c) (by_first (first_among n (component_names t.1.tree.nodes)) (first-of n t.0 (definitions t.1.tree.nodes)))
+    rw (chosen-first n position (priority r t.0) 0 (component_names t.1.tree.definitions) c) (by_first (first_among n (component_names t.1.tree.definitions)) (first-of n t.0 t.1.tree.definitions))
   where
     made : (j : ℕ) → Choice
     made j = record { template = position; component = 0 + j; priority = priority r t.0 }
@@ -119,7 +119,7 @@ chosen-step r n position t c o at is =
         by_bool false true e = (let q : false ≡ true = e in cc)
         by_bool false false e = record { template = was.template; taken = refl; at = was.at; good = was.good; there = was.there }
 
-    by_first : (f : Option ℕ) → IsFirstOf n t.0 (definitions t.1.tree.nodes) f → IsChosen r n (with_first position (priority r t.0) 0 f c) (if defines n t then better r o t else o)
+    by_first : (f : Option ℕ) → IsFirstOf n t.0 t.1.tree.definitions f → IsChosen r n (with_first position (priority r t.0) 0 f c) (if defines n t then better r o t else o)
     by_first None none = rw none is
     by_first (Some j) some = rw some.3 (taken j (record { definition = some.0; at = some.1; is = some.2 }) c is)
 

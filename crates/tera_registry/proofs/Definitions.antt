@@ -1,21 +1,12 @@
 -- The component of a name, found by position.
-use Rattle.std.proofs.Common.{◌≡◌, ℕ, ◌<◌, is_some, List, [], ◌∷◌, ◌++◌, length, map, get_or, Option, Some, None, Result, Ok, option_map, option_and_then, Box, Vec, Global, String, refl, sym, ap, ap₂, ◌∙◌, arith, slice_get}
+use Rattle.std.proofs.Common.{◌≡◌, ℕ, ◌<◌, is_some, List, [], length, map, get_or, Option, Some, None, option_map, option_and_then, Global, String, refl, sym, ap, ap₂, ◌∙◌, arith, slice_get}
 use Rattle.std.specs.declared.collections.BTreeMap.{BTreeMap}
 use Rattle.std.specs.List.{list_any}
 use mathlib.Core.Path.{fun_ext}
-use Rattle.std.proofs.lemmas.List.{length-map, map-append}
+use Rattle.std.proofs.lemmas.List.{length-map}
 use Rattle.std.proofs.lemmas.Option.{slice_get_read, slice_get-map, slice_get_within}
 use Rattle.tera_errors.specs.Site.{Name}
-use Rattle.tera_errors.specs.Fault.{Fault}
-use Rattle.tera_syntax_tree.specs.Tree.{Signature, Nodes}
-use Rattle.tera_syntax_tree.specs.Definitions.{definitions, node_definitions}
-use Rattle.tera_syntax_tree.specs.View.{node_of, nodes_of, signature_of}
-use Rattle.tera_syntax_tree.specs.declared.node.Node.{Node as Read}
-use Rattle.tera_syntax_tree.specs.declared.node.Node.TheVariants as variant
-use Rattle.tera_syntax_tree.specs.declared.component.Signature.{Signature as Written}
-use Rattle.tera_syntax_tree.proofs.Views.{view_definition}
-use Rattle.tera_code.specs.Code.{listing_of}
-use Rattle.tera_components.specs.Definition.{Definition, definition_of}
+use Rattle.tera_syntax_tree.specs.Tree.{Signature, Nodes, Definitions, Tree}
 use Rattle.tera_objects.specs.Engine.{Engine}
 use Rattle.tera_meaning.specs.Registry.{Entry, Registry}
 use Rattle.tera_meaning.specs.Known.{lacks_a_callee}
@@ -48,7 +39,7 @@ pub record ChosenAt (r : Registry) (n : Name) (c : Choice) : Type 0 where
   pub template : Entry
   pub definition : Signature × Nodes
   pub template_at : slice_get r.templates c.template ≡ Some template
-  pub at : slice_get (definitions template.1.tree.nodes) c.component ≡ Some definition
+  pub at : slice_get template.1.tree.definitions c.component ≡ Some definition
   pub is : component r n ≡ Some (record { file = template.0; signature = definition.0; body = definition.1 })
 
 pub component-position : (r : Registry) (n : Name) (c : Choice) → chosen_of r n ≡ Some c → ChosenAt r n c
@@ -62,29 +53,17 @@ component-position r n c e =
       is = ap (option_and_then (component_in n)) is.taken ∙ is.there.is;
     }
 
-pub kept-within : (file : Name) (nodes : Nodes) (cs : List Kept) (k : ℕ) (d : Signature × Nodes) → map kept_of cs ≡ kept_all file nodes → slice_get (definitions nodes) k ≡ Some d → k < length cs
-kept-within file nodes cs k d e at =
-    omega (arith, slice_get_within (definitions nodes) k d at, length-map (definitions nodes) (kept_as file), length-map cs kept_of, ap length e)
+pub kept-within : (file : Name) (definitions : Definitions) (cs : List Kept) (k : ℕ) (d : Signature × Nodes) → map kept_of cs ≡ kept_all file definitions → slice_get definitions k ≡ Some d → k < length cs
+kept-within file definitions cs k d e at =
+    omega (arith, slice_get_within definitions k d at, length-map definitions (kept_as file), length-map cs kept_of, ap length e)
 
-pub kept-at : (file : Name) (nodes : Nodes) (cs : List Kept) (k : ℕ) (d : Signature × Nodes) (c : Kept) → map kept_of cs ≡ kept_all file nodes → slice_get (definitions nodes) k ≡ Some d → c ≡ get_or cs k c → kept_of c ≡ kept_as file d
-kept-at file nodes cs k d c e at is =
-    let q : Some (kept_of c) ≡ Some (kept_as file d) = sym (slice_get-map kept_of cs k ∙ ap (option_map kept_of) (slice_get_read cs (length cs) k c refl (kept-within file nodes cs k d e at) is)) ∙ ap (λ l. slice_get l k) e ∙ slice_get-map (kept_as file) (definitions nodes) k ∙ ap (option_map (kept_as file)) at in
+pub kept-at : (file : Name) (definitions : Definitions) (cs : List Kept) (k : ℕ) (d : Signature × Nodes) (c : Kept) → map kept_of cs ≡ kept_all file definitions → slice_get definitions k ≡ Some d → c ≡ get_or cs k c → kept_of c ≡ kept_as file d
+kept-at file definitions cs k d c e at is =
+    let q : Some (kept_of c) ≡ Some (kept_as file d) = sym (slice_get-map kept_of cs k ∙ ap (option_map kept_of) (slice_get_read cs (length cs) k c refl (kept-within file definitions cs k d e at) is)) ∙ ap (λ l. slice_get l k) e ∙ slice_get-map (kept_as file) definitions k ∙ ap (option_map (kept_as file)) at in
     cc
 
--- one component more
-pub kept-one : (file : Name) (old mid : List Kept) (c : Kept) (node : Read) (signature : Box Written Global) (body : Vec Read Global) (lent : Written) (xs : List Read) → node ≡ variant.Definition signature body → lent ≡ signature.value → xs ≡ body.items → mid ≡ old ++ c ∷ []
-    → ◌≡◌ {A = Result Definition Fault} (Ok (definition_of (signature_of lent))) (Ok c.definition) → c.code.value.chunk ≡ listing_of file (nodes_of xs) → map kept_of mid ≡ map kept_of old ++ map (kept_as file) (node_definitions (node_of node))
-kept-one file old mid c node signature body lent xs is s a e h g =
-    let given : definition_of (signature_of lent) ≡ c.definition = cc in
-    ap (map kept_of) e
-    ∙ map-append kept_of old (c ∷ [])
-    ∙ ap₂ (λ d l. map kept_of old ++ (d, l) ∷ []) (sym given) g
-    ∙ ap₂ (λ w x. map kept_of old ++ (definition_of (signature_of w), listing_of file (nodes_of x)) ∷ []) s a
-    ∙ ap (λ n. map kept_of old ++ map (kept_as file) (node_definitions n)) (sym (view_definition signature body))
-    ∙ ap (λ n. map kept_of old ++ map (kept_as file) (node_definitions (node_of n))) (sym is)
-
 -- what a template calls is there or not
-pub misses-callee : (r : Registry) (engine : Engine) (nodes : Nodes) (choices : BTreeMap (String Global) Choice Global) (needs : List Need) → AreChosen r choices → r.engine ≡ engine → needs ≡ needs_of nodes → list_any (is_unmet engine (is_there choices [])) needs ≡ lacks_a_callee r.engine (is_component r) nodes
-misses-callee r engine nodes choices needs known of those =
+pub misses-callee : (r : Registry) (engine : Engine) (tree : Tree) (choices : BTreeMap (String Global) Choice Global) (needs : List Need) → AreChosen r choices → r.engine ≡ engine → needs ≡ needs_of tree → list_any (is_unmet engine (is_there choices [])) needs ≡ lacks_a_callee r.engine (is_component r) tree
+misses-callee r engine tree choices needs known of those =
     let there : is_there choices [] ≡ is_component r = fun_ext (λ n. sym (or-false (is_some (chosen choices n))) ∙ ap is_some (known n) ∙ component-there r n) in
-    ap (list_any (is_unmet engine (is_there choices []))) those ∙ sym (lacks-needs engine (is_there choices []) nodes) ∙ ap₂ (λ e f. lacks_a_callee e f nodes) (sym of) there
+    ap (list_any (is_unmet engine (is_there choices []))) those ∙ sym (lacks-needs engine (is_there choices []) tree) ∙ ap₂ (λ e f. lacks_a_callee e f tree) (sym of) there

@@ -3,9 +3,8 @@ use Rattle.std.proofs.Common.{◌≡◌, ℕ, zero, suc, ◌+◌, ◌-◌, ◌<�
 use Rattle.std.proofs.lemmas.Bool.{cases_lt}
 use Rattle.std.specs.List.{list_any}
 use Rattle.tera_errors.specs.Site.{Name}
-use Rattle.tera_syntax_tree.specs.Tree.{Signature, Nodes}
+use Rattle.tera_syntax_tree.specs.Tree.{Signature, Nodes, Tree}
 use Rattle.tera_syntax_tree.specs.Blocks as in_tree
-use Rattle.tera_syntax_tree.specs.Definitions.{definitions}
 use Rattle.tera_syntax_tree.specs.Calls.{Callee}
 use Rattle.tera_code.specs.Listing.{Listing}
 use Rattle.tera_code.specs.Code.{Code, nodes_code}
@@ -46,10 +45,10 @@ module _ (engine : Engine) (there : Name → Bool) where
   components_lack (c ∷ cs) = ap (λ x. code_lacks engine there c.code.value.chunk.code || x) (components_lack cs)
 
   -- the code of nodes without blocks, with that of their components
-  pub codes_lack_as_tree : (file : Name) (body : Listing) (components : List Component) (nodes : Nodes) → body.code ≡ nodes_code nodes 0 → map kept_of components ≡ kept_all file nodes → in_tree.blocks nodes ≡ [] → (code_lacks engine there body.code || list_any (λ c. code_lacks engine there c.code.value.chunk.code) components) ≡ lacks_a_callee engine there nodes
-  codes_lack_as_tree file body components nodes e g none =
-      let of_components = components_lack components ∙ ap (list_any (λ k. code_lacks engine there k.1.code)) g ∙ kept_lack file (definitions nodes) in
-      ap₂ (λ x y. x || y) (code_lacks_as_nodes body.code nodes e) of_components ∙ ap (λ bs. has_unknown engine there nodes || list_any (has_unknown engine there) (map (λ b. b.1) bs ++ map (λ d. d.1) (definitions nodes))) (sym none)
+  pub codes_lack_as_tree : (file : Name) (body : Listing) (components : List Component) (tree : Tree) → body.code ≡ nodes_code tree.nodes 0 → map kept_of components ≡ kept_all file tree.definitions → in_tree.blocks tree.nodes ≡ [] → (code_lacks engine there body.code || list_any (λ c. code_lacks engine there c.code.value.chunk.code) components) ≡ lacks_a_callee engine there tree
+  codes_lack_as_tree file body components tree e g none =
+      let of_components = components_lack components ∙ ap (list_any (λ k. code_lacks engine there k.1.code)) g ∙ kept_lack file tree.definitions in
+      ap₂ (λ x y. x || y) (code_lacks_as_nodes body.code tree.nodes e) of_components ∙ ap (λ bs. has_unknown engine there tree.nodes || list_any (has_unknown engine there) (map (λ b. b.1) bs ++ map (λ d. d.1) tree.definitions)) (sym none)
 
   -- The code is looked through position by position.
 

@@ -1,6 +1,7 @@
 pub mod Compared
 pub mod Element
 pub mod Rows
+pub mod Gathering
 pub mod Placed
 pub mod Kept
 pub mod Standing

@@ -15,8 +15,7 @@ use Rattle.std.proofs.lemmas.Option.{slice_get_within}
 use Rattle.tera_errors.specs.Site.{Name}
 use Rattle.tera_syntax_tree.specs.Tree.{Signature, Nodes}
 use Rattle.tera_syntax_tree.specs.Blocks.{is_among}
-use Rattle.tera_syntax_tree.specs.Definitions.{definitions}
-use Rattle.tera_syntax_tree.specs.View.{nodes_of}
+use Rattle.tera_syntax_tree.specs.View.{definitions_of}
 use Rattle.tera_values.specs.Named.{name_cmp}
 use Rattle.tera_code.specs.Listing.{Listing}
 use Rattle.tera_components.specs.Definition.{Definition}
@@ -55,7 +54,7 @@ taken-within r ts n c same e =
 -- a definition of this name in the template that is kept
 pub record Taken (r : Registry) (n : Name) (c : Choice) (u : Stored) : Type 0 where
   pub definition : Signature × Nodes
-  pub at : slice_get (definitions (nodes_of u.meant.nodes)) c.component ≡ Some definition
+  pub at : slice_get (definitions_of u.meant.definitions) c.component ≡ Some definition
   pub is : component r n ≡ Some (record { file = string_bytes u.name; signature = definition.0; body = definition.1 })
 
 taken-in : (r : Registry) (ts : List (Rc Stored Global)) (n : Name) (c : Choice) (u : Rc Stored Global) → r.templates ≡ entries_of ts → chosen_of r n ≡ Some c → u ≡ get_or ts c.template u → Taken r n c u.value
@@ -65,21 +64,21 @@ taken-in r ts n c u same e is =
     let kept : p.template ≡ entry_of u.value = (let q : Some p.template ≡ Some (entry_of u.value) = sym p.template_at ∙ ap (λ es. slice_get es c.template) same ∙ at in cc) in
     record {
       definition = p.definition;
-      at = ap (λ (t : Entry). slice_get (definitions t.1.tree.nodes) c.component) (sym kept) ∙ p.at;
+      at = ap (λ (t : Entry). slice_get t.1.tree.definitions c.component) (sym kept) ∙ p.at;
       is = p.is ∙ ap (λ (t : Entry). Some (record { file = t.0; signature = p.definition.0; body = p.definition.1 })) kept;
     }
 
 taken-component-within : (r : Registry) (n : Name) (c : Choice) (u : Stored) → Taken r n c u → c.component < length u.components.items
 taken-component-within r n c u t =
-    kept-within (string_bytes u.name) (nodes_of u.meant.nodes) u.components.items c.component t.definition u.defined t.at
+    kept-within (string_bytes u.name) (definitions_of u.meant.definitions) u.components.items c.component t.definition u.defined t.at
 
 taken-defined : (r : Registry) (n : Name) (c : Choice) (u : Stored) (k : Kept) (found : Defined) (t : Taken r n c u) → k ≡ get_or u.components.items c.component k → found.definition.now ≡ k.definition → code_of found.body ≡ listing_of (string_bytes u.name) t.definition.1 → IsDefined (component r n) (Some found)
 taken-defined r n c u k found t is given code =
-    let kept = kept-at (string_bytes u.name) (nodes_of u.meant.nodes) u.components.items c.component t.definition k u.defined t.at is in
+    let kept = kept-at (string_bytes u.name) (definitions_of u.meant.definitions) u.components.items c.component t.definition k u.defined t.at is in
     rw t.is (record { given = given ∙ ap (λ (p : Definition × Listing). p.0) kept; code = code })
 
 -- the code of its body, by the number
-component-number : (ts : List (Rc Stored Global)) (i k : ℕ) (u : Rc Stored Global) (d : Signature × Nodes) → i < length ts → u ≡ get_or ts i u → slice_get (definitions (nodes_of u.value.meant.nodes)) k ≡ Some d → slice_get (listings (entries_of ts)) (start (entries_of ts) i + (1 + length u.value.blocks.items + k)) ≡ Some (listing_of (string_bytes u.value.name) d.1)
+component-number : (ts : List (Rc Stored Global)) (i k : ℕ) (u : Rc Stored Global) (d : Signature × Nodes) → i < length ts → u ≡ get_or ts i u → slice_get (definitions_of u.value.meant.definitions) k ≡ Some d → slice_get (listings (entries_of ts)) (start (entries_of ts) i + (1 + length u.value.blocks.items + k)) ≡ Some (listing_of (string_bytes u.value.name) d.1)
 component-number ts i k u d lt is at =
     let es = entries_of ts in
     let t = entry_of u.value in

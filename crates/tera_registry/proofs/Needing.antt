@@ -4,9 +4,8 @@ use Rattle.std.specs.List.{list_any, filter_map, flat_map, cons_option}
 use Rattle.std.proofs.lemmas.List.{drop_all, append-nil}
 use Rattle.std.proofs.lemmas.List.Folds.{list_any-append, flat_map-map}
 use Rattle.tera_errors.specs.Site.{Name}
-use Rattle.tera_syntax_tree.specs.Tree.{Signature, Nodes}
+use Rattle.tera_syntax_tree.specs.Tree.{Signature, Nodes, Definitions, Tree}
 use Rattle.tera_syntax_tree.specs.Blocks as in_tree
-use Rattle.tera_syntax_tree.specs.Definitions.{definitions}
 use Rattle.tera_syntax_tree.specs.Calls.{Callee, AFilter, ATest, AFunction, AComponent, calls}
 use Rattle.tera_values.specs.Named.{at_name}
 use Rattle.tera_built_ins.specs.Filters.{filter_named}
@@ -80,8 +79,8 @@ blocks-need : (file : Name) (bs : List (Name × Nodes)) → flat_map (λ b. code
 blocks-need file [] = refl
 blocks-need file (b ∷ bs) = ap₂ (λ x y. x ++ y) (code-needs-as-nodes (nodes_code b.1 0) b.1 refl) (blocks-need file bs)
 
-kept-need : (file : Name) (nodes : Nodes) → flat_map (λ k. code_needs k.1.code) (kept_all file nodes) ≡ flat_map nodes_need (map (λ d. d.1) (definitions nodes))
-kept-need file nodes = all (definitions nodes)
+kept-need : (file : Name) (definitions : Definitions) → flat_map (λ k. code_needs k.1.code) (kept_all file definitions) ≡ flat_map nodes_need (map (λ d. d.1) definitions)
+kept-need file definitions = all definitions
   where
     all : (ds : List (Signature × Nodes)) → flat_map (λ k. code_needs k.1.code) (map (kept_as file) ds) ≡ flat_map nodes_need (map (λ d. d.1) ds)
     all [] = refl
@@ -91,13 +90,13 @@ flat-append : {X : Type 0} (f : X → List Need) (xs ys : List X) → flat_map f
 flat-append f [] ys = refl
 flat-append f (x ∷ xs) ys = ap (λ l. f x ++ l) (flat-append f xs ys) ∙ sym (append_assoc (f x) (flat_map f xs) (flat_map f ys))
 
-pub bodies_need_as_tree : (file : Name) (body : Listing) (blocks : List TemplateBlock) (components : List Component) (nodes : Nodes) → body ≡ listing_of file nodes → map kept_block blocks ≡ block_listings file (in_tree.blocks nodes) → map kept_of components ≡ kept_all file nodes → bodies_need body blocks components ≡ needs_of nodes
-bodies_need_as_tree file body blocks components nodes e f g =
+pub bodies_need_as_tree : (file : Name) (body : Listing) (blocks : List TemplateBlock) (components : List Component) (nodes : Nodes) (definitions : Definitions) → body ≡ listing_of file nodes → map kept_block blocks ≡ block_listings file (in_tree.blocks nodes) → map kept_of components ≡ kept_all file definitions → bodies_need body blocks components ≡ needs_of (record { parent = None; nodes = nodes; definitions = definitions })
+bodies_need_as_tree file body blocks components nodes definitions e f g =
     let own = code-needs-as-nodes body.code nodes (ap (λ l. l.code) e) in
     let of_blocks = sym (flat_map-map (λ (b : Name × Listing). code_needs b.1.code) kept_block blocks) ∙ ap (flat_map (λ b. code_needs b.1.code)) f ∙ blocks-need file (in_tree.blocks nodes) in
-    let of_components = sym (flat_map-map (λ (k : Definition × Listing). code_needs k.1.code) kept_of components) ∙ ap (flat_map (λ k. code_needs k.1.code)) g ∙ kept-need file nodes in
+    let of_components = sym (flat_map-map (λ (k : Definition × Listing). code_needs k.1.code) kept_of components) ∙ ap (flat_map (λ k. code_needs k.1.code)) g ∙ kept-need file definitions in
     let bs = map (λ b. b.1) (in_tree.blocks nodes) in
-    let ds = map (λ d. d.1) (definitions nodes) in
+    let ds = map (λ d. d.1) definitions in
     ap₂ (λ x y. x ++ y) (ap₂ (λ x y. x ++ y) own of_blocks) of_components ∙ append_assoc (nodes_need nodes) (flat_map nodes_need bs) (flat_map nodes_need ds) ∙ ap (λ l. nodes_need nodes ++ l) (sym (flat-append nodes_need bs ds))
 
 -- A template lacks a callee where one of its needs is not met: what is built in is there in every engine.
@@ -142,8 +141,8 @@ module _ (engine : Engine) (there : Name → Bool) where
       joined None = refl
       joined (Some n) = ap (λ b. b || list_any unmet (filter_map need_of cs)) (sym (or-false (unmet n)))
 
-  pub lacks-needs : (nodes : Nodes) → lacks_a_callee engine there nodes ≡ list_any unmet (needs_of nodes)
-  lacks-needs nodes = all (bodies nodes)
+  pub lacks-needs : (tree : Tree) → lacks_a_callee engine there tree ≡ list_any unmet (needs_of tree)
+  lacks-needs tree = all (bodies tree)
     where
       all : (bs : List Nodes) → list_any (has_unknown engine there) bs ≡ list_any unmet (flat_map nodes_need bs)
       all [] = refl

@@ -8,7 +8,6 @@ use Rattle.std.proofs.lemmas.Option.{slice_get_within}
 use Rattle.tera_errors.specs.Fault.{Fault, circular_extend, missing_parent}
 use Rattle.tera_errors.specs.Site.{Name}
 use Rattle.tera_syntax_tree.specs.Tree.{Signature, Nodes}
-use Rattle.tera_syntax_tree.specs.Definitions.{definitions}
 use Rattle.tera_code.specs.Code.{listing_of}
 use Rattle.tera_values.specs.Named.{name_cmp}
 use Rattle.tera_meaning.specs.Registry.{Registry, Entry}
@@ -31,13 +30,13 @@ length-blocks t =
     let of_block : Name × Nodes → Option Standing = λ b. Some (t, b) in
     let of_component : Signature × Nodes → Option Standing = λ d. None in
     let bs = map of_block (blocks_of t) in
-    let ds = map of_component (definitions t.1.tree.nodes) in
-    omega (arith, length-codes t, length-append bs ds, length-map (blocks_of t) of_block, length-map (definitions t.1.tree.nodes) of_component)
+    let ds = map of_component t.1.tree.definitions in
+    omega (arith, length-codes t, length-append bs ds, length-map (blocks_of t) of_block, length-map t.1.tree.definitions of_component)
 
 -- What has the number of a block is the block.
 
 first-in : (t : Entry) (rest : List (Option Standing)) (k : ℕ) (b : Name × Nodes) → slice_get (blocks_of t) k ≡ Some b → get_or (blocks_in t ++ rest) (suc k) None ≡ Some (t, b)
-first-in t rest k b at = among (blocks_of t) (definitions t.1.tree.nodes) k at
+first-in t rest k b at = among (blocks_of t) t.1.tree.definitions k at
   where
     among : {D : Type 0} (bs : List (Name × Nodes)) (ds : List D) (k : ℕ) → slice_get bs k ≡ Some b → get_or ((map (λ b. Some (t, b)) bs ++ map (λ d. None) ds) ++ rest) k None ≡ Some (t, b)
     among [] ds k at = (let q : None ≡ Some b = at in cc)
@@ -272,7 +271,7 @@ one-of t (b ∷ bs) ds (suc k) p e = one-of t bs ds k p e
 in-template : (t : Entry) (es : List Entry) (n : ℕ) (p : Standing) → get_or (blocks_in t) n None ≡ Some p → Place (t ∷ es) n p
 in-template t es zero p e = (let q : None ≡ Some p = e in cc)
 in-template t es (suc k) p e =
-    (let one = one-of t (blocks_of t) (definitions t.1.tree.nodes) k p e in record {
+    (let one = one-of t (blocks_of t) t.1.tree.definitions k p e in record {
       template = 0;
       block = k;
       here = ap Some one.1;

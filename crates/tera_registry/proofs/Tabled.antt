@@ -5,7 +5,6 @@ use Rattle.std.proofs.lemmas.Option.{slice_get_within, slice_get-map, slice_get-
 use Rattle.tera_errors.specs.Site.{Name}
 use Rattle.tera_syntax_tree.specs.Tree.{Signature, Nodes}
 use Rattle.tera_syntax_tree.specs.Blocks.{blocks}
-use Rattle.tera_syntax_tree.specs.Definitions.{definitions}
 use Rattle.tera_code.specs.Listing.{Listing}
 use Rattle.tera_code.specs.Code.{listing_of}
 use Rattle.tera_code.specs.Blocks.{block_listings, block_of}
@@ -45,9 +44,10 @@ pub kept-codes : (t : Stored) → t.body.value.chunk ∷ (map (λ b. b.code.valu
 kept-codes t =
     let file = (entry_of t).0 in
     let nodes = (entry_of t).1.tree.nodes in
+    let definitions = (entry_of t).1.tree.definitions in
     let of_blocks = kept-blocks-codes t.blocks.items ∙ ap (map (λ b. b.1)) t.divided ∙ blocks-codes file (blocks nodes) in
-    let of_components = kept-components-codes t.components.items ∙ ap (map (λ k. k.1)) t.defined ∙ components-codes file (definitions nodes) in
-    ap₂ (λ x l. x ∷ l) t.compiled (ap₂ (λ x y. x ++ y) of_blocks of_components ∙ sym (map-append (listing_of file) (map (λ b. b.1) (blocks nodes)) (map (λ d. d.1) (definitions nodes))))
+    let of_components = kept-components-codes t.components.items ∙ ap (map (λ k. k.1)) t.defined ∙ components-codes file definitions in
+    ap₂ (λ x l. x ∷ l) t.compiled (ap₂ (λ x y. x ++ y) of_blocks of_components ∙ sym (map-append (listing_of file) (map (λ b. b.1) (blocks nodes)) (map (λ d. d.1) definitions)))
 
 -- its own body, its blocks and its components, one behind the other
 pub template-added : (t : Stored) (old one two three : List Listing) (body : Listing) → body ≡ t.body.value.chunk → one ≡ old ++ body ∷ [] → two ≡ one ++ map (λ b. b.code.value.chunk) t.blocks.items → three ≡ two ++ map (λ c. c.code.value.chunk) t.components.items → three ≡ old ++ codes_of (entry_of t)
@@ -118,11 +118,11 @@ module _ (t : Entry) where
   block_bodies = map (λ b. b.1) (blocks t.1.tree.nodes)
 
   abbrev component_bodies : List Nodes
-  component_bodies = map (λ d. d.1) (definitions t.1.tree.nodes)
+  component_bodies = map (λ d. d.1) t.1.tree.definitions
 
-  pub length-codes : length (codes_of t) ≡ 1 + length (blocks t.1.tree.nodes) + length (definitions t.1.tree.nodes)
+  pub length-codes : length (codes_of t) ≡ 1 + length (blocks t.1.tree.nodes) + length t.1.tree.definitions
   length-codes =
-      omega (arith, length-map (t.1.tree.nodes ∷ (block_bodies ++ component_bodies)) (listing_of t.0), length-append block_bodies component_bodies, length-map (blocks t.1.tree.nodes) (λ b. b.1), length-map (definitions t.1.tree.nodes) (λ d. d.1))
+      omega (arith, length-map (t.1.tree.nodes ∷ (block_bodies ++ component_bodies)) (listing_of t.0), length-append block_bodies component_bodies, length-map (blocks t.1.tree.nodes) (λ b. b.1), length-map t.1.tree.definitions (λ d. d.1))
 
   -- one of its blocks
   pub block-listing-at : (es : List Entry) (i k : ℕ) (b : Name × Nodes) → slice_get es i ≡ Some t → slice_get (blocks t.1.tree.nodes) k ≡ Some b → slice_get (listings es) (start es i + 1 + k) ≡ Some (listing_of t.0 b.1)
@@ -135,16 +135,16 @@ module _ (t : Entry) where
       ∙ ap (option_map (listing_of t.0)) (get-front block_bodies component_bodies k (omega (arith, length-map (blocks t.1.tree.nodes) (λ b. b.1))) ∙ slice_get-map (λ b. b.1) (blocks t.1.tree.nodes) k ∙ ap (option_map (λ b. b.1)) is))
 
   -- one of its components
-  pub component-listing-at : (es : List Entry) (i k : ℕ) (d : Signature × Nodes) → slice_get es i ≡ Some t → slice_get (definitions t.1.tree.nodes) k ≡ Some d → slice_get (listings es) (start es i + 1 + length (blocks t.1.tree.nodes) + k) ≡ Some (listing_of t.0 d.1)
+  pub component-listing-at : (es : List Entry) (i k : ℕ) (d : Signature × Nodes) → slice_get es i ≡ Some t → slice_get t.1.tree.definitions k ≡ Some d → slice_get (listings es) (start es i + 1 + length (blocks t.1.tree.nodes) + k) ≡ Some (listing_of t.0 d.1)
   component-listing-at es i k d at is =
-      (let there = slice_get_within (definitions t.1.tree.nodes) k d is in
+      (let there = slice_get_within t.1.tree.definitions k d is in
       let n = length block_bodies + k in
       let same = length-map (blocks t.1.tree.nodes) (λ b. b.1) in
       let few : suc n < length (codes_of t) = omega (arith, length-codes, same) in
       let e : start es i + 1 + length (blocks t.1.tree.nodes) + k ≡ start es i + suc n = omega (arith, same) in
       ap (slice_get (listings es)) e ∙ listing-at es i (suc n) t at few
       ∙ slice_get-map (listing_of t.0) (block_bodies ++ component_bodies) n
-      ∙ ap (option_map (listing_of t.0)) (get-behind block_bodies component_bodies k ∙ slice_get-map (λ d. d.1) (definitions t.1.tree.nodes) k ∙ ap (option_map (λ d. d.1)) is))
+      ∙ ap (option_map (listing_of t.0)) (get-behind block_bodies component_bodies k ∙ slice_get-map (λ d. d.1) t.1.tree.definitions k ∙ ap (option_map (λ d. d.1)) is))
 
 -- the roots of templates
 pub rooted : (r : Registry) (roots : List ℕ) → AreRoots r roots (length r.templates) → AreRooted r roots

@@ -9,7 +9,7 @@ use Rattle.tera_meaning.specs.Known.{bodies}
 
 -- the code of a template's own body, of its blocks and of its components
 abbrev pub codes_of : Entry → List Listing
-codes_of t = map (listing_of t.0) (bodies t.1.tree.nodes)
+codes_of t = map (listing_of t.0) (bodies t.1.tree)
 
 -- the code of all bodies of templates
 abbrev pub listings : List Entry → List Listing

@@ -55,7 +55,7 @@ abbrev pub chosen_from : Registry → Name → ℕ → List Entry → Option Cho
 chosen_from r name position [] old = old
 chosen_from r name position (t ∷ ts) old =
     chosen_from r name (suc position) ts
-    (chosen_in name position (priority r t.0) 0 (component_names t.1.tree.nodes) old)
+    (chosen_in name position (priority r t.0) 0 (component_names t.1.tree.definitions) old)
 
 -- what is taken of a name
 abbrev pub chosen_of : Registry → Name → Option Choice

@@ -1,8 +1,7 @@
 -- Components as templates keep them.
 use Rattle.std.specs.Prelude.{List, [], ◌∷◌, map, bytes_eq, Option, Some, None, if◌then◌else◌}
 use Rattle.tera_errors.specs.Site.{Name}
-use Rattle.tera_syntax_tree.specs.Tree.{Signature, Nodes}
-use Rattle.tera_syntax_tree.specs.Definitions.{definitions}
+use Rattle.tera_syntax_tree.specs.Tree.{Signature, Nodes, Definitions}
 use Rattle.tera_components.specs.Definition.{Definition, definition_of}
 use Rattle.tera_code.specs.Listing.{Listing}
 use Rattle.tera_code.specs.Code.{listing_of}
@@ -20,9 +19,9 @@ kept_of c = (c.definition, c.code.value.chunk)
 abbrev pub kept_as : Name → Signature × Nodes → Definition × Listing
 kept_as file d = (definition_of d.0, listing_of file d.1)
 
--- the components of nodes as they are kept of the template in whose text they stand
-abbrev pub kept_all : Name → Nodes → List (Definition × Listing)
-kept_all file nodes = map (kept_as file) (definitions nodes)
+-- components as they are kept of the template in whose text they are defined
+abbrev pub kept_all : Name → Definitions → List (Definition × Listing)
+kept_all file definitions = map (kept_as file) definitions
 
 abbrev pub kept_names : List Component → List Name
 kept_names = map (λ c. c.definition.name)

@@ -2,11 +2,11 @@
 use Rattle.std.specs.Prelude.{List, map, option_map, string_bytes, String}
 use Rattle.std.specs.declared.alloc.Global.{Global}
 use Rattle.std.specs.declared.rc.Rc.{Rc}
-use Rattle.tera_syntax_tree.specs.View.{nodes_of}
 use Rattle.tera_values.specs.Named.{Named}
 use Rattle.tera_objects.specs.Engine.{Engine}
 use Rattle.tera_meaning.specs.Registry.{Template, Entry, Registry, new_registry}
 use Rattle.tera_registry.specs.declared.template.Template.{Template as Stored}
+use Rattle.tera_registry.specs.Meant.{tree_meant}
 pub use Rattle.tera_registry.specs.Order.{Rises}
 
 abbrev pub entry_of : Stored → Entry
@@ -14,7 +14,7 @@ entry_of t = (
   string_bytes t.name,
   record {
     text = string_bytes t.text;
-    tree = record { parent = option_map string_bytes t.parent; nodes = nodes_of t.meant.nodes };
+    tree = tree_meant (option_map string_bytes t.parent) t.meant;
   },
 )
 

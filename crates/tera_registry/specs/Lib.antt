@@ -1,6 +1,7 @@
 pub mod Order
 pub mod Positions
 pub mod Coding
+pub mod Meant
 pub mod Kept
 pub mod Components
 pub mod Places

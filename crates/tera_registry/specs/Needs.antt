@@ -2,7 +2,7 @@
 use Rattle.std.specs.Prelude.{Bool, false, not, is_some, List, ◌++◌, Option, Some, None, option_and_then, if◌then◌else◌}
 use Rattle.std.specs.List.{filter_map, flat_map}
 use Rattle.tera_errors.specs.Site.{Name}
-use Rattle.tera_syntax_tree.specs.Tree.{Nodes}
+use Rattle.tera_syntax_tree.specs.Tree.{Nodes, Tree}
 use Rattle.tera_syntax_tree.specs.Calls.{Callee, AFilter, ATest, AFunction, AComponent, calls}
 use Rattle.tera_built_ins.specs.Filters.{filter_named}
 use Rattle.tera_built_ins.specs.TestTable.{test_named}
@@ -46,8 +46,8 @@ abbrev pub nodes_need : Nodes → List Need
 nodes_need body = filter_map need_of (calls body)
 
 -- what a template needs, in its own body, those of its blocks and those of its components
-abbrev pub needs_of : Nodes → List Need
-needs_of nodes = flat_map nodes_need (bodies nodes)
+abbrev pub needs_of : Tree → List Need
+needs_of tree = flat_map nodes_need (bodies tree)
 
 -- whether what is needed is not there
 abbrev pub is_unmet : Engine → (Name → Bool) → Need → Bool

@@ -3,7 +3,6 @@ use Rattle.std.specs.Prelude.{◌≡◌, ◌+◌, ℕ, suc, true, is_some, List,
 use Rattle.std.specs.List.{filter_map, flat_map}
 use Rattle.tera_errors.specs.Site.{Name}
 use Rattle.tera_syntax_tree.specs.Tree.{Nodes}
-use Rattle.tera_syntax_tree.specs.Definitions.{definitions}
 use Rattle.tera_meaning.specs.Registry.{Entry, Registry}
 use Rattle.tera_meaning.specs.Resolve.{entry_at}
 use Rattle.tera_meaning.specs.Lineage.{Definer, ancestors, definers_in}
@@ -46,7 +45,7 @@ name_of p = p.1.0
 -- whose bodies a template has: its own, then those of its blocks, then those of its components
 abbrev pub blocks_in : Entry → List (Option Standing)
 blocks_in t =
-    None ∷ (map (λ b. Some (t, b)) (blocks_of t) ++ map (λ d. None) (definitions t.1.tree.nodes))
+    None ∷ (map (λ b. Some (t, b)) (blocks_of t) ++ map (λ d. None) t.1.tree.definitions)
 
 -- the block whose body has this number
 abbrev pub block_at : List Entry → ℕ → Option Standing

@@ -2,7 +2,7 @@
 ghost use Rattle.std.specs.Prelude.{◌≡◌, ◌++◌, ◌∷◌, [], OnOk, IfOk, IfErr, IsTrue, map, option_map, string_bytes};
 ghost use Rattle.tera_errors.specs.Prelude.{GivesOneOf, Lacks};
 ghost use Rattle.tera_syntax_tree.specs.Blocks as in_tree;
-ghost use Rattle.tera_syntax_tree.specs.Prelude.{delimiters_of, accepted, nodes_of, quoted_option, tree_of};
+ghost use Rattle.tera_syntax_tree.specs.Prelude.{delimiters_of, accepted, definitions_of, nodes_of, quoted_option, tree_of};
 ghost use Rattle.tera_code.specs.Prelude.{block_of, block_listings, listing_of};
 ghost use Rattle.tera_values.specs.Prelude.{Named, put_all};
 ghost use Rattle.tera_meaning.specs.Registry.{Template as Meaning};
@@ -17,7 +17,7 @@ use crate::components::{Component, components};
 use crate::meant::Meant;
 use crate::merge::{merged, sorted};
 use crate::names::put;
-use crate::naming::{Naming, names_in};
+use crate::naming::{Naming, all_includes, names_in};
 use crate::needs::{Need, needs};
 use crate::places::block_places;
 use crate::template::Template;
@@ -27,7 +27,7 @@ use tera_code::blocks::blocks;
 use tera_code::{Block, compiled};
 use tera_errors::TeraResult;
 use tera_syntax::parse;
-use tera_syntax_tree::{Delimiters, Node, ParserOutput, Quoted};
+use tera_syntax_tree::{Delimiters, ParserOutput, Quoted};
 use tera_variables::free;
 
 /// Reads each text and puts it at its name, up to the first that spells no tree.
@@ -96,7 +96,7 @@ fn made(alloc: Global, output: &ParserOutput, name: &str, text: &str) -> TeraRes
         (λ t. entry_of t ≡ (name.now, record { text = text.now; tree = tree_of output.now })) }
     ensures lacks { IfErr result Lacks }
 {
-    let code = code_of(alloc, name, output.nodes.as_slice())?;
+    let code = code_of(alloc, name, output)?;
     assembled(alloc, output, name, text, code)
 }
 
@@ -109,23 +109,24 @@ struct TemplateCode {
     needs: Vec<Need>,
 }
 
-/// What the nodes of the template of this name are compiled to.
-fn code_of(alloc: Global, name: &str, nodes: &[Node]) -> TeraResult<TemplateCode>
+/// What the text of the template of this name is compiled to that was read to this.
+fn code_of(alloc: Global, name: &str, output: &ParserOutput) -> TeraResult<TemplateCode>
     ensures body { IfOk result
-        (λ c. c.body.value.chunk ≡ listing_of name.now (nodes_of nodes.now)) }
+        (λ c. c.body.value.chunk ≡ listing_of name.now (nodes_of output.now.nodes.items)) }
     ensures blocks { IfOk result (λ c. map kept_block c.blocks.items
-        ≡ block_listings name.now (in_tree.blocks (nodes_of nodes.now))) }
+        ≡ block_listings name.now (in_tree.blocks (nodes_of output.now.nodes.items))) }
     ensures components { IfOk result (λ c. map kept_of c.components.items
-        ≡ kept_all name.now (nodes_of nodes.now)) }
-    ensures needs { IfOk result (λ c. c.needs.items ≡ needs_of (nodes_of nodes.now)) }
+        ≡ kept_all name.now (definitions_of output.now.component_definitions.items)) }
+    ensures needs { IfOk result (λ c. c.needs.items ≡ needs_of (tree_of output.now)) }
     ensures lacks { IfErr result Lacks }
 {
+    let nodes = output.nodes.as_slice();
     let body = Code::new(alloc, compiled(alloc, name, nodes)?)?;
     let blocks = kept_blocks(alloc, blocks(alloc, name, nodes)?)?;
-    let components = components(alloc, name, nodes)?;
+    let components = components(alloc, name, output.component_definitions.as_slice())?;
     let needs = needs(
         alloc,
-        nodes,
+        output,
         name,
         &body.chunk,
         blocks.as_slice(),
@@ -175,8 +176,8 @@ fn assembled(
     requires blocks { map kept_block code.blocks.items
         ≡ block_listings name.now (in_tree.blocks (nodes_of output.now.nodes.items)) }
     requires components { map kept_of code.components.items
-        ≡ kept_all name.now (nodes_of output.now.nodes.items) }
-    requires needs { code.needs.items ≡ needs_of (nodes_of output.now.nodes.items) }
+        ≡ kept_all name.now (definitions_of output.now.component_definitions.items) }
+    requires needs { code.needs.items ≡ needs_of (tree_of output.now) }
     ensures ok { IfOk result
         (λ t. entry_of t ≡ (name.now, record { text = text.now; tree = tree_of output.now })) }
     ensures lacks { IfErr result Lacks }
@@ -190,7 +191,7 @@ fn assembled(
     } = code;
     let places = block_places(alloc, blocks.as_slice())?;
     let tops = names_in(alloc, Naming::TopBlocks, nodes)?;
-    let includes = names_in(alloc, Naming::Includes, nodes)?;
+    let includes = all_includes(alloc, output)?;
     let free = free(alloc, nodes)?;
     Ok(Template {
         name: String::from_str(alloc, name)?,
@@ -204,7 +205,7 @@ fn assembled(
         free,
         components,
         needs,
-        meant: Meant::of(nodes),
+        meant: Meant::of(nodes, output.component_definitions.as_slice()),
     })
 }
 

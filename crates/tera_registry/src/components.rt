@@ -1,7 +1,7 @@
 // The components of a template, as they are kept.
-ghost use Rattle.std.specs.Prelude.{◌≡◌, ◌++◌, map, OnOk, IfOk, IfErr};
+ghost use Rattle.std.specs.Prelude.{◌≡◌, map, IfOk, IfErr};
 ghost use Rattle.tera_errors.specs.Prelude.{Lacks};
-ghost use Rattle.tera_syntax_tree.specs.Prelude.{node_definitions, node_of, nodes_of};
+ghost use Rattle.tera_syntax_tree.specs.Prelude.{defined_of, definitions_of};
 ghost use Rattle.tera_registry.specs.Components.{kept_of, kept_as, kept_all};
 
 use crate::code::Code;
@@ -10,7 +10,7 @@ use std::rc::Rc;
 use tera_code::compiled;
 use tera_components::ComponentDefinition;
 use tera_errors::TeraResult;
-use tera_syntax_tree::Node;
+use tera_syntax_tree::DefinedComponent;
 
 /// A component that a template defines: what it is given, and the code of its body.
 #[derive(Drop)]
@@ -19,45 +19,29 @@ pub struct Component {
     pub code: Rc<Code>,
 }
 
-/// The components that the nodes define, which stand in the text of the template of this name, in the order of the text.
-pub fn components(alloc: Global, file: &str, nodes: &[Node]) -> TeraResult<Vec<Component>>
+/// Components as they are kept, which are defined in the text of the template of this name, in the order of the text.
+pub fn components(
+    alloc: Global,
+    file: &str,
+    definitions: &[DefinedComponent],
+) -> TeraResult<Vec<Component>>
     ensures ok { IfOk result
-        (λ v. map kept_of v.items ≡ kept_all file.now (nodes_of nodes.now)) }
+        (λ v. map kept_of v.items ≡ kept_all file.now (definitions_of definitions.now)) }
     ensures lacks { IfErr result Lacks }
 {
-    let mut found = Vec::new(alloc);
-    for node in nodes {
-        add(alloc, node, file, &mut found)?;
+    let mut kept = Vec::new(alloc);
+    for defined in definitions {
+        kept.push(kept_component(alloc, file, defined)?)?;
     }
-    Ok(found)
+    Ok(kept)
 }
 
-// Puts the component that the node defines behind those that were found.
-fn add(alloc: Global, node: &Node, file: &str, found: &mut Vec<Component>) -> TeraResult<()>
-    ensures ok { OnOk result (map kept_of found.new.items
-        ≡ map kept_of found.old.items
-        ++ map (kept_as file.now) (node_definitions (node_of node.now))) }
+// A component of these.
+fn kept_component(alloc: Global, file: &str, defined: &DefinedComponent) -> TeraResult<Component>
+    ensures ok { IfOk result (λ c. kept_of c ≡ kept_as file.now (defined_of defined.now)) }
     ensures lacks { IfErr result Lacks }
 {
-    match node {
-        Node::Definition { body, signature } => {
-            let definition = ComponentDefinition::new(alloc, signature)?;
-            let code = Code::new(alloc, compiled(alloc, file, body.as_slice())?)?;
-            found.push(Component { definition, code })?;
-            Ok(())
-        }
-        Node::Content { .. }
-        | Node::Print { .. }
-        | Node::PrintName { .. }
-        | Node::If { .. }
-        | Node::Set { .. }
-        | Node::Capture { .. }
-        | Node::FilterSection { .. }
-        | Node::For { .. }
-        | Node::Block { .. }
-        | Node::Include { .. }
-        | Node::ComponentCall { .. }
-        | Node::Break
-        | Node::Continue => Ok(()),
-    }
+    let definition = ComponentDefinition::new(alloc, &defined.signature)?;
+    let code = Code::new(alloc, compiled(alloc, file, defined.body.as_slice())?)?;
+    Ok(Component { definition, code })
 }

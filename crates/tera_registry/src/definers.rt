@@ -111,7 +111,7 @@ fn loses(templates: &[Rc<Template>], ups: &[Up], of: usize) -> bool
 /// Whether a template includes what is not there, where so many of those that it includes are.
 fn misses(of: &Template, included: usize) -> bool
     ensures { (r : Registry) → included ≡ length (includes_of r (entry_of of.now))
-        → result ≡ misses_an_include r (entry_of of.now).1.tree.nodes }
+        → result ≡ misses_an_include r (entry_of of.now).1.tree }
 {
     included < of.includes.len()
 }
@@ -138,7 +138,7 @@ fn misses_a_callee<O: Objects>(
     of: &Template,
 ) -> bool
     ensures { (r : Registry) → AreChosen r choices.now → r.engine ≡ O.engine objects.now
-        → result ≡ lacks_a_callee r.engine (is_component r) (entry_of of.now).1.tree.nodes }
+        → result ≡ lacks_a_callee r.engine (is_component r) (entry_of of.now).1.tree }
 {
     any_unmet(objects, choices, of.needs.as_slice())
 }

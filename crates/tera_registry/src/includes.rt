@@ -1,21 +1,50 @@
-// Whether what nodes include is there.
+// Whether what a text includes is there.
 ghost use Rattle.std.specs.Prelude.{◌≡◌, is_none};
 ghost use Rattle.std.specs.List.{list_any};
-ghost use Rattle.tera_syntax_tree.specs.Prelude.{node_includes, node_of, nodes_of};
+ghost use Rattle.tera_syntax_tree.specs.Prelude.{definitions_include, definitions_of, includes, node_includes, node_of, nodes_of, tree_of};
 ghost use Rattle.tera_meaning.specs.Prelude.{misses_an_include, resolve};
 ghost use Rattle.tera_registry.specs.Kept.{Rises, entries_of, seen};
 
 use crate::names::resolve;
 use crate::template::Template;
 use std::rc::Rc;
-use tera_syntax_tree::Node;
+use tera_syntax_tree::{DefinedComponent, Node, ParserOutput};
 
-/// Whether nodes include what is not there. Takes no memory.
-#[cycle(missing)]
-pub fn misses(nodes: &[Node], templates: &[Rc<Template>], prefixes: &[String]) -> bool
+/// Whether a text includes what is not there, in its nodes or in a component. Takes no memory.
+pub fn misses(output: &ParserOutput, templates: &[Rc<Template>], prefixes: &[String]) -> bool
     requires { Rises (entries_of templates.now) }
     ensures { result
-        ≡ misses_an_include (seen templates.now prefixes.now) (nodes_of nodes.now) }
+        ≡ misses_an_include (seen templates.now prefixes.now) (tree_of output.now) }
+{
+    nodes_miss(output.nodes.as_slice(), templates, prefixes)
+        || components_miss(output.component_definitions.as_slice(), templates, prefixes)
+}
+
+// Whether components include what is not there.
+fn components_miss(
+    definitions: &[DefinedComponent],
+    templates: &[Rc<Template>],
+    prefixes: &[String],
+) -> bool
+    requires { Rises (entries_of templates.now) }
+    ensures { let r = seen templates.now prefixes.now in
+        result ≡ list_any (λ name. is_none (resolve r name))
+        (definitions_include (definitions_of definitions.now)) }
+{
+    for defined in definitions {
+        if nodes_miss(defined.body.as_slice(), templates, prefixes) {
+            return true;
+        }
+    }
+    false
+}
+
+// Whether nodes include what is not there.
+#[cycle(missing)]
+fn nodes_miss(nodes: &[Node], templates: &[Rc<Template>], prefixes: &[String]) -> bool
+    requires { Rises (entries_of templates.now) }
+    ensures { let r = seen templates.now prefixes.now in
+        result ≡ list_any (λ name. is_none (resolve r name)) (includes (nodes_of nodes.now)) }
 {
     for node in nodes {
         if node_misses(node, templates, prefixes) {
@@ -34,14 +63,13 @@ fn node_misses(node: &Node, templates: &[Rc<Template>], prefixes: &[String]) -> 
 {
     match node {
         Node::If { body, other, .. } | Node::For { body, other, .. } => {
-            misses(body.as_slice(), templates, prefixes)
-                || misses(other.as_slice(), templates, prefixes)
+            nodes_miss(body.as_slice(), templates, prefixes)
+                || nodes_miss(other.as_slice(), templates, prefixes)
         }
-        Node::Block { body, .. }
-        | Node::Capture { body, .. }
+        Node::Block(block) => nodes_miss(block.body.as_slice(), templates, prefixes),
+        Node::Capture { body, .. }
         | Node::FilterSection { body, .. }
-        | Node::ComponentCall { body, .. }
-        | Node::Definition { body, .. } => misses(body.as_slice(), templates, prefixes),
+        | Node::ComponentCall { body, .. } => nodes_miss(body.as_slice(), templates, prefixes),
         Node::Include { name, .. } => resolve(templates, prefixes, name.as_str()).is_none(),
         Node::Content { .. }
         | Node::Print { .. }

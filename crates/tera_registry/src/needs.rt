@@ -3,7 +3,7 @@ ghost use Rattle.std.specs.Prelude.{◌≡◌, ◌++◌, [], map, slice_get, opt
 ghost use Rattle.std.specs.List.{flat_map, cons_option};
 ghost use Rattle.tera_errors.specs.Prelude.{Lacks};
 ghost use Rattle.tera_syntax_tree.specs.Blocks as in_tree;
-ghost use Rattle.tera_syntax_tree.specs.Prelude.{nodes_of};
+ghost use Rattle.tera_syntax_tree.specs.Prelude.{definitions_of, nodes_of, tree_of};
 ghost use Rattle.tera_code.specs.Prelude.{block_listings, callee_of, listing_of};
 ghost use Rattle.tera_registry.specs.Components.{kept_block, kept_of, kept_all};
 ghost use Rattle.tera_registry.specs.Needs.{is_built_in, as_need, callee_needed, needed_by, needs_of, code_needs, bodies_need};
@@ -15,7 +15,7 @@ use std::alloc::Global;
 use tera_built_ins::{BuiltInFilter, BuiltInFunction, BuiltInTest};
 use tera_code::{Callee, Chunk};
 use tera_errors::TeraResult;
-use tera_syntax_tree::Node;
+use tera_syntax_tree::ParserOutput;
 use tera_values::Name;
 
 /// The name of a component that is called, or that of a filter, a test or a function that is not built in.
@@ -123,22 +123,23 @@ fn code_needs(
     Ok(needs)
 }
 
-/// What the template of this name needs that has these nodes, where this is the code of its body, of its blocks and of its
+/// What the template of this name needs whose text was read to this, where this is the code of its body, of its blocks and of its
 /// components.
 #[tactic(auto, using(crate::proofs::Needing::bodies_need_as_tree))]
 pub fn needs(
     alloc: Global,
-    nodes: &[Node<'_>],
+    output: &ParserOutput<'_>,
     name: &str,
     body: &Chunk,
     blocks: &[TemplateBlock],
     components: &[Component],
 ) -> TeraResult<Vec<Need>>
-    requires body { body.now ≡ listing_of name.now (nodes_of nodes.now) }
+    requires body { body.now ≡ listing_of name.now (nodes_of output.now.nodes.items) }
     requires blocks { map kept_block blocks.now
-        ≡ block_listings name.now (in_tree.blocks (nodes_of nodes.now)) }
-    requires components { map kept_of components.now ≡ kept_all name.now (nodes_of nodes.now) }
-    ensures ok { IfOk result (λ v. v.items ≡ needs_of (nodes_of nodes.now)) }
+        ≡ block_listings name.now (in_tree.blocks (nodes_of output.now.nodes.items)) }
+    requires components { map kept_of components.now
+        ≡ kept_all name.now (definitions_of output.now.component_definitions.items) }
+    ensures ok { IfOk result (λ v. v.items ≡ needs_of (tree_of output.now)) }
     ensures lacks { IfErr result Lacks }
 {
     code_needs(alloc, body, blocks, components)

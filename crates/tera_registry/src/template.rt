@@ -1,11 +1,11 @@
 // Templates as they are kept.
-ghost use Rattle.std.specs.Prelude.{◌≡◌, map, string_bytes};
+ghost use Rattle.std.specs.Prelude.{◌≡◌, map, option_map, string_bytes};
 ghost use Rattle.std.specs.Coded.{codes};
 ghost use Rattle.tera_syntax_tree.specs.Blocks as in_tree;
-ghost use Rattle.tera_syntax_tree.specs.Includes as in_nodes;
-ghost use Rattle.tera_syntax_tree.specs.Prelude.{nodes_of};
+ghost use Rattle.tera_syntax_tree.specs.Prelude.{definitions_of, nodes_of, tree_includes};
 ghost use Rattle.tera_components.specs.Prelude.{definition_coding};
 ghost use Rattle.tera_registry.specs.Components as kept;
+ghost use Rattle.tera_registry.specs.Meant.{tree_meant};
 ghost use Rattle.tera_registry.specs.Needs.{needs_of};
 ghost use Rattle.tera_registry.specs.Places.{ArePlaces};
 ghost use Rattle.tera_registry.specs.contracts.needs.Need as need;
@@ -37,7 +37,7 @@ pub struct Template {
     pub(crate) places: BTreeMap<String, usize>,
     /// The names of those that are inside no other block.
     pub(crate) tops: Vec<Name>,
-    /// The names that it includes, in the order of its text.
+    /// The names that it includes: in the order of the text those of its nodes, and then those of its components.
     pub(crate) includes: Vec<Name>,
     /// The names that are free in its text, each once.
     pub(crate) free: BTreeSet<String>,
@@ -54,12 +54,12 @@ pub struct Template {
         (in_tree.blocks (nodes_of meant.nodes)) } by { Prim.hlevel (codes, chunk.the_row.coded) },
     ghost placed: { ArePlaces (map (λ b. b.name) blocks.items) places } by { Prim.hlevel codes },
     ghost defined: { map kept.kept_of components.items
-        ≡ kept.kept_all (string_bytes name) (nodes_of meant.nodes) } by { Prim.hlevel
+        ≡ kept.kept_all (string_bytes name) (definitions_of meant.definitions) } by { Prim.hlevel
             (codes, definition_coding, chunk.the_row.coded) },
     ghost needing: { needs.items
-        ≡ needs_of (nodes_of meant.nodes) } by { Prim.hlevel (codes, need.the_row.coded) },
+        ≡ needs_of (tree_meant (option_map string_bytes parent) meant) } by { Prim.hlevel (codes, need.the_row.coded) },
     ghost included: { includes.items
-        ≡ in_nodes.includes (nodes_of meant.nodes) } by { Prim.hlevel codes },
+        ≡ tree_includes (tree_meant (option_map string_bytes parent) meant) } by { Prim.hlevel codes },
     ghost freed: { names_in free ≡ in_text.free (nodes_of meant.nodes) } by { Prim.hlevel codes },
     ghost topped: { tops.items
         ≡ in_tree.top_blocks (nodes_of meant.nodes) } by { Prim.hlevel codes },

@@ -1,7 +1,7 @@
 // All templates of an engine, linked.
 ghost use Rattle.std.specs.Prelude.{◌≡◌, ◌+◌, ◌<◌, IfOk, IfErr, IfSome, Some, None, Ok, map, length, slice_get, is_some, string_bytes, IsTrue, [], ◌∷◌, option_map};
 ghost use Rattle.tera_errors.specs.Prelude.{Gives, GivesOneOf, Lacks};
-ghost use Rattle.tera_syntax_tree.specs.Prelude.{delimiters_of, accepted, nodes_of};
+ghost use Rattle.tera_syntax_tree.specs.Prelude.{delimiters_of, accepted, tree_of};
 ghost use Rattle.tera_meaning.specs.Prelude.{component, first_fault, is_component, misses_an_include, ancestors, AreComponentNames, AnswersVariables, resolve, Entry, Registry};
 ghost use Rattle.std.specs.Coded.{codes};
 ghost use Rattle.tera_code.specs.contracts.chunk.Chunk as chunk;
@@ -34,7 +34,7 @@ use std::rc::Rc;
 use tera_components::ComponentDefinition;
 use tera_errors::{Error, TeraResult};
 use tera_objects::Objects;
-use tera_syntax_tree::{Delimiters, Node};
+use tera_syntax_tree::{Delimiters, ParserOutput};
 use tera_values::{Name, Sought};
 
 /// Templates by name, and the prefixes by which a name is looked up that none of them has.
@@ -416,12 +416,12 @@ impl Templates {
         }
     }
 
-    /// Whether nodes include what is not there. Takes no memory.
-    pub fn misses_an_include(&self, nodes: &[Node<'_>]) -> bool
+    /// Whether a text includes what is not there. Takes no memory.
+    pub fn misses_an_include(&self, output: &ParserOutput<'_>) -> bool
         ensures { (r : Registry) → result
-            ≡ misses_an_include (with_templates r self.now) (nodes_of nodes.now) }
+            ≡ misses_an_include (with_templates r self.now) (tree_of output.now) }
     {
-        misses(nodes, self.all.as_slice(), self.prefixes.as_slice())
+        misses(output, self.all.as_slice(), self.prefixes.as_slice())
     }
 
     /// The names of the templates, in byte order.

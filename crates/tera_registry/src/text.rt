@@ -105,10 +105,10 @@ impl<'t> TextTable<'t> {
     pub fn lacks_a_callee<O: Objects>(&self, objects: &O) -> bool
         ensures { (r : Registry) (tree : Tree) (file : Name) → r.engine ≡ O.engine objects.now
             → (chunk_of self.now.body).code ≡ nodes_code tree.nodes 0
-            → map kept_of self.now.components.items ≡ kept_all file tree.nodes
+            → map kept_of self.now.components.items ≡ kept_all file tree.definitions
             → blocks tree.nodes ≡ []
             → result ≡ lacks_a_callee r.engine
-            (is_component_beside (with_templates r self.now.templates.now) tree) tree.nodes }
+            (is_component_beside (with_templates r self.now.templates.now) tree) tree }
     {
         let choices = &self.templates.choices;
         let own = Own {

@@ -1,16 +1,16 @@
 -- What is derived is read.
 use Rattle.std.proofs.Common.{◌≡◌, ℕ, suc, ◌-◌, ◌≤◌, ◌<◌, max, nat_lt, List, [], ◌∷◌, Bool, true, false, Option, Some, None, IsTrue, if◌then◌else◌, refl, ap, sym, ◌∙◌, arith, length}
 use Rattle.std.proofs.lemmas.Grind.{common_steps}
-use Rattle.std.specs.Prelude.{option_map, option_and_then, codes}
+use Rattle.std.specs.Prelude.{option_and_then, codes}
 use Rattle.tera_syntax_tokens.specs.declared.token.Kind.TheVariants as k
 use Rattle.tera_syntax_tokens.specs.Token.{Token}
-use Rattle.tera_syntax_tokens.specs.Cut.{Piece}
+use Rattle.tera_syntax_tokens.specs.Cut.{Piece, Words, Comment, Variable, Block}
 use Rattle.tera_syntax_tree.specs.Tree.{Content, Print, Break, Node, Nodes, NoNodes}
-use Rattle.tera_syntax_tree.specs.Depth.{depth, entries_depth, filters_depth, parameters_depth, node_depth, nodes_depth}
+use Rattle.tera_syntax_tree.specs.Depth.{depth, entries_depth, filters_depth, node_depth, nodes_depth}
 use Rattle.tera_syntax.specs.declared.heads.Surroundings.{Surroundings}
-use Rattle.tera_syntax.specs.Heads.{Head, IfHead, ForHead, SetHead, SectionHead, BlockHead, CallHead, DefinitionHead, outside, nested, make, head_depth, splits, chains, inside, ends}
-use Rattle.tera_syntax.specs.Grammar.{IsWord, Simple, Opens, GoesOn, DerivesNodes, empty, content, blank, comment, print, single, bodied, DerivesRest, ended, split, chained}
-use Rattle.tera_syntax.specs.Reader.{OpenStatement, Progress, Tag, Single, Opening, GoingOn, Dividing, Closing, join, one, printed, put, room, opened, aside, closed, around, tag, taken, statement, read_on, nodes}
+use Rattle.tera_syntax.specs.Heads.{Head, IfHead, ForHead, SetHead, SectionHead, BlockHead, CallHead, make, head_depth, splits, chains, inside, ends}
+use Rattle.tera_syntax.specs.Grammar.{IsWord, Simple, Opens, GoesOn, join, DerivesNodes, empty, content, blank, comment, print, single, bodied, DerivesRest, ended, split, chained}
+use Rattle.tera_syntax.specs.Reader.{OpenStatement, Progress, Tag, Single, Opening, GoingOn, Dividing, Closing, one, printed, put, room, opened, closed, around, tag, taken, statement, step}
 use Rattle.tera_syntax.proofs.Rows.{join-none, join-join}
 use Rattle.tera_syntax.proofs.Whole.{whole_complete}
 use Rattle.tera_syntax.proofs.OneTag.{simple_read, opens_read, goes_on_read, else_read, ends_read}
@@ -48,7 +48,6 @@ head-fits (SetHead n fs g) b o m le = two-fit (filters_depth fs) (nodes_depth b)
 head-fits (SectionHead fs) b o m le = two-fit (filters_depth fs) (nodes_depth b) m le
 head-fits (BlockHead n s) b o m le = (omega arith, omega (arith, le))
 head-fits (CallHead n es s) b o m le = two-fit (entries_depth es) (nodes_depth b) m le
-head-fits (DefinitionHead s) b o m le = two-fit (parameters_depth s.parameters) (nodes_depth b) m le
 
 other-fits : (h : Head) (b o : Nodes) (m : ℕ) → splits h ≡ true → node_depth (make h b o) ≤ suc m → nodes_depth o ≤ m
 other-fits (IfHead c) b o m q le = third-fits (depth c) (nodes_depth b) (nodes_depth o) m le
@@ -110,10 +109,10 @@ module _ (limit : ℕ) where
         statement-by here tokens Closing (ends_read (room limit here) p q tokens h e)
         ∙ may-divide (ends h tokens) (closed (asking before h c q ∷ fs) body) e
 
-    else-divides : splits h ≡ true → IsWord k.Else (codes "else") tokens → statement limit here tokens ≡ Some (at (nested q) (halved before h c q body ∷ fs) NoNodes)
+    else-divides : splits h ≡ true → IsWord k.Else (codes "else") tokens → statement limit here tokens ≡ Some (at q (halved before h c q body ∷ fs) NoNodes)
     else-divides s w =
         statement-by here tokens Dividing (else_read (room limit here) p q tokens w)
-        ∙ ap (option_map aside) (may-divide (splits h) (Some (at q (halved before h c q body ∷ fs) NoNodes)) s)
+        ∙ may-divide (splits h) (Some (at q (halved before h c q body ∷ fs) NoNodes)) s
 
     goes-on : (f : Head) → chains h ≡ true → GoesOn q f tokens → suc (length fs) < limit → head_depth f ≤ limit - suc (suc (length fs))
         → statement limit here tokens ≡ Some (at (inside f q) (asking NoNodes f true q ∷ halved before h c q body ∷ fs) NoNodes)
@@ -128,56 +127,59 @@ module _ (limit : ℕ) where
         statement-by (at p (halved before h c q body ∷ fs) other) tokens Closing (ends_read (room limit here) p q tokens h e)
         ∙ may-divide (ends h tokens) (closed (halved before h c q body ∷ fs) other) e
 
-  mutual
-    reads : {q : Surroundings} {x : Nodes} {i j : List Piece} → DerivesNodes q x i j → (fs : List OpenStatement) (found : Nodes) → nodes_depth x ≤ limit - length fs
-        → read_on limit (at q fs found) i ≡ read_on limit (at q fs (join found x)) j
-    reads {q = q} {j = j} empty fs found le = ap (λ n. read_on limit (at q fs n) j) (sym (join-none found))
-    reads (content {words = []} filled d) fs found le = absurd (filled refl)
-    reads {q = q} {j = j} (content {words = b ∷ bs} {position = position} {rest = rest} {i = i} filled d) fs found le =
-        let n = Content (b ∷ bs) position in
-        let s = first-fits 1 (nodes_depth rest) limit (length fs) (omega arith) le in
-        ap (option_and_then (λ t. read_on limit t i)) (put-read q fs found n s.0)
-        ∙ reads d fs (join found (one n)) s.2
-        ∙ ap (λ n. read_on limit (at q fs n) j) (join-join found (one n) rest)
-    reads (blank d) fs found le = reads d fs found le
-    reads (comment d) fs found le = reads d fs found le
-    reads {q = q} {j = j} (print {value = value} {tokens = tokens} {rest = rest} {i = i} v d) fs found le =
-        let s = first-fits (suc (depth value)) (nodes_depth rest) limit (length fs) (omega arith) le in
-        ap (λ o. option_and_then (λ t. read_on limit t i) (printed limit (at q fs found) o)) (whole_complete v (room limit (at q fs found)) (print-fits (depth value) limit (length fs) s.0 s.1))
-        ∙ ap (option_and_then (λ t. read_on limit t i)) (put-read q fs found (Print value) s.0)
-        ∙ reads d fs (join found (one (Print value))) s.2
-        ∙ ap (λ n. read_on limit (at q fs n) j) (join-join found (one (Print value)) rest)
-    reads {q = q} {j = j} (single {node = n} {rest = rest} {i = i} a d) fs found le =
-        let s = first-fits (node_depth n) (nodes_depth rest) limit (length fs) (node-some n) le in
-        ap (option_and_then (λ t. read_on limit t i)) (single-read a fs found s.0 s.1)
-        ∙ reads d fs (join found (one n)) s.2
-        ∙ ap (λ n. read_on limit (at q fs n) j) (join-join found (one n) rest)
-    reads {q = q} {j = j} (bodied {head = h} {body = body} {other = other} {rest = rest} {i = i} a b o d) fs found le =
-        let n = make h body other in
-        let s = first-fits (node_depth n) (nodes_depth rest) limit (length fs) (node-some n) le in
-        let f = head-fits h body other (limit - suc (length fs)) s.1 in
-        ap (option_and_then (λ t. read_on limit t i)) (bodied-read a fs found s.0 f.0)
-        ∙ reads b (asking found h false q ∷ fs) NoNodes f.1
-        ∙ rests o (inside h q) found false fs body (rest-fits o body (limit - suc (length fs)) s.1)
-        ∙ reads d fs (join found (one n)) s.2
-        ∙ ap (λ n. read_on limit (at q fs n) j) (join-join found (one n) rest)
+  -- What reads pieces one by one: a step that is taken leads on, and in a statement nothing else is done.
+  module _ {X : Type 0} (read : Progress → List Piece → Option X) (moves : (s t : Progress) (p : Piece) (i : List Piece) → step limit s p ≡ Some t → read s (p ∷ i) ≡ read t i)
+      (moves-in : (q : Surroundings) (f : OpenStatement) (fs : List OpenStatement) (found : Nodes) (p : Piece) (i : List Piece) → read (at q (f ∷ fs) found) (p ∷ i) ≡ option_and_then (λ t. read t i) (step limit (at q (f ∷ fs) found) p)) where
+    mutual
+      pub reads : {q : Surroundings} {x : Nodes} {i j : List Piece} → DerivesNodes q x i j → (fs : List OpenStatement) (found : Nodes) → nodes_depth x ≤ limit - length fs
+          → read (at q fs found) i ≡ read (at q fs (join found x)) j
+      reads {q = q} {j = j} empty fs found le = ap (λ n. read (at q fs n) j) (sym (join-none found))
+      reads (content {words = []} filled d) fs found le = absurd (filled refl)
+      reads {q = q} {j = j} (content {words = b ∷ bs} {position = position} {rest = rest} {i = i} filled d) fs found le =
+          let n = Content (b ∷ bs) position in
+          let s = first-fits 1 (nodes_depth rest) limit (length fs) (omega arith) le in
+          moves (at q fs found) (at q fs (join found (one n))) (Words (b ∷ bs) position) i (put-read q fs found n s.0)
+          ∙ reads d fs (join found (one n)) s.2
+          ∙ ap (λ n. read (at q fs n) j) (join-join found (one n) rest)
+      reads {q = q} (blank {position = position} {i = i} d) fs found le = moves (at q fs found) (at q fs found) (Words [] position) i refl ∙ reads d fs found le
+      reads {q = q} (comment {i = i} d) fs found le = moves (at q fs found) (at q fs found) Comment i refl ∙ reads d fs found le
+      reads {q = q} {j = j} (print {value = value} {tokens = tokens} {rest = rest} {i = i} v d) fs found le =
+          let n = Print value in
+          let s = first-fits (suc (depth value)) (nodes_depth rest) limit (length fs) (omega arith) le in
+          moves (at q fs found) (at q fs (join found (one n))) (Variable tokens) i
+          (ap (printed limit (at q fs found)) (whole_complete v (room limit (at q fs found)) (print-fits (depth value) limit (length fs) s.0 s.1)) ∙ put-read q fs found n s.0)
+          ∙ reads d fs (join found (one n)) s.2
+          ∙ ap (λ n. read (at q fs n) j) (join-join found (one n) rest)
+      reads {q = q} {j = j} (single {node = n} {tokens = tokens} {rest = rest} {i = i} a d) fs found le =
+          let s = first-fits (node_depth n) (nodes_depth rest) limit (length fs) (node-some n) le in
+          moves (at q fs found) (at q fs (join found (one n))) (Block tokens) i (single-read a fs found s.0 s.1)
+          ∙ reads d fs (join found (one n)) s.2
+          ∙ ap (λ n. read (at q fs n) j) (join-join found (one n) rest)
+      reads {q = q} {j = j} (bodied {head = h} {tokens = tokens} {body = body} {other = other} {rest = rest} {i = i} a b o d) fs found le =
+          let n = make h body other in
+          let s = first-fits (node_depth n) (nodes_depth rest) limit (length fs) (node-some n) le in
+          let f = head-fits h body other (limit - suc (length fs)) s.1 in
+          moves (at q fs found) (at (inside h q) (asking found h false q ∷ fs) NoNodes) (Block tokens) i (bodied-read a fs found s.0 f.0)
+          ∙ reads b (asking found h false q ∷ fs) NoNodes f.1
+          ∙ rests o (inside h q) found false fs body (rest-fits o body (limit - suc (length fs)) s.1)
+          ∙ reads d fs (join found (one n)) s.2
+          ∙ ap (λ n. read (at q fs n) j) (join-join found (one n) rest)
 
-    rests : {q : Surroundings} {h : Head} {x : Nodes} {i j : List Piece} → DerivesRest q h x i j → (p : Surroundings) (before : Nodes) (c : Bool) (fs : List OpenStatement) (body : Nodes) → nodes_depth x ≤ limit - suc (length fs)
-        → read_on limit (at p (asking before h c q ∷ fs) body) i ≡ option_and_then (λ t. read_on limit t j) (closed (halved before h c q body ∷ fs) x)
-    rests {q = q} {h = h} (ended {tokens = tokens} {i = i} e) p before c fs body le =
-        ap (option_and_then (λ t. read_on limit t i)) (ended-read p q c before h fs body tokens e)
-    rests {q = q} {h = h} (split {tokens = tokens} {last = last} {body = x} {i = i} {j = j} s w d e) p before c fs body le =
-        ap (option_and_then (λ t. read_on limit t i)) (else-divides p q c before h fs body tokens s w)
-        ∙ reads d (halved before h c q body ∷ fs) NoNodes le
-        ∙ ap (option_and_then (λ t. read_on limit t j)) (half-ended-read (nested q) q c before h fs body last x e)
-    rests {q = q} {h = h} (chained {further = f} {tokens = tokens} {body = x} {other = y} {i = i} s g b o) p before c fs body le =
-        let n = make f x y in
-        let z = first-fits (node_depth n) 0 limit (suc (length fs)) (node-some n) le in
-        let v = head-fits f x y (limit - suc (suc (length fs))) z.1 in
-        let half = halved before h c q body ∷ fs in
-        ap (option_and_then (λ t. read_on limit t i)) (goes-on p q c before h fs body tokens f s g z.0 v.0)
-        ∙ reads b (asking NoNodes f true q ∷ half) NoNodes v.1
-        ∙ rests o (inside f q) NoNodes true half x (rest-fits o x (limit - suc (suc (length fs))) z.1)
-
-pub complete_nodes : (limit : ℕ) (x : Nodes) (i : List Piece) → DerivesNodes outside x i [] → nodes_depth x ≤ limit → nodes limit i ≡ Some x
-complete_nodes limit x i d le = reads limit d [] NoNodes (omega arith)
+      rests : {q : Surroundings} {h : Head} {x : Nodes} {i j : List Piece} → DerivesRest q h x i j → (p : Surroundings) (before : Nodes) (c : Bool) (fs : List OpenStatement) (body : Nodes) → nodes_depth x ≤ limit - suc (length fs)
+          → read (at p (asking before h c q ∷ fs) body) i ≡ option_and_then (λ t. read t j) (closed (halved before h c q body ∷ fs) x)
+      rests {q = q} {h = h} (ended {tokens = tokens} {i = i} e) p before c fs body le =
+          moves-in p (asking before h c q) fs body (Block tokens) i
+          ∙ ap (option_and_then (λ t. read t i)) (ended-read p q c before h fs body tokens e)
+      rests {q = q} {h = h} (split {tokens = tokens} {last = last} {body = x} {i = i} {j = j} s w d e) p before c fs body le =
+          moves (at p (asking before h c q ∷ fs) body) (at q (halved before h c q body ∷ fs) NoNodes) (Block tokens) i (else-divides p q c before h fs body tokens s w)
+          ∙ reads d (halved before h c q body ∷ fs) NoNodes le
+          ∙ moves-in q (halved before h c q body) fs x (Block last) j
+          ∙ ap (option_and_then (λ t. read t j)) (half-ended-read q q c before h fs body last x e)
+      rests {q = q} {h = h} (chained {further = f} {tokens = tokens} {body = x} {other = y} {i = i} s g b o) p before c fs body le =
+          let n = make f x y in
+          let z = first-fits (node_depth n) 0 limit (suc (length fs)) (node-some n) le in
+          let v = head-fits f x y (limit - suc (suc (length fs))) z.1 in
+          let half = halved before h c q body ∷ fs in
+          moves (at p (asking before h c q ∷ fs) body) (at (inside f q) (asking NoNodes f true q ∷ half) NoNodes) (Block tokens) i (goes-on p q c before h fs body tokens f s g z.0 v.0)
+          ∙ reads b (asking NoNodes f true q ∷ half) NoNodes v.1
+          ∙ rests o (inside f q) NoNodes true half x (rest-fits o x (limit - suc (suc (length fs))) z.1)

@@ -1,17 +1,17 @@
 -- Names of which two are the same, where they stand and without that.
-use Rattle.std.proofs.Common.{◌≡◌, Bool, true, false, not, ℕ, cond, ◌&&◌, ◌||◌, if◌then◌else◌, List, [], ◌∷◌, ◌++◌, map, Option, Some, None, is_some, IfSome, IfOk, Result, Ok, Err, option_map, refl, sym, ap, ap₂, ◌∙◌}
+use Rattle.std.proofs.Common.{◌≡◌, ◌≤◌, arith, Bool, true, false, not, ℕ, cond, ◌&&◌, ◌||◌, if◌then◌else◌, List, [], ◌∷◌, ◌++◌, map, Option, Some, None, is_some, IfSome, IfOk, Result, Ok, Err, option_map, refl, sym, ap, ap₂, ◌∙◌}
 use Rattle.std.specs.Cmp.Lexicographic.{nat_list_eq_equiv}
 use Rattle.std.specs.Str.{bytes_eq}
-use Rattle.std.specs.Option.{option_or}
+use Rattle.std.specs.Option.{option_or, unwrap_or}
 use Rattle.std.proofs.lemmas.List.{map-append}
 use Rattle.std.proofs.lemmas.List.Elements.{All-head, All-tail}
 use Rattle.std.proofs.lemmas.Simd.{map-map}
 use Rattle.tera_errors.specs.Site.{Name}
 use Rattle.tera_errors.specs.declared.span.Span.{Span}
-use Rattle.tera_syntax_tree.specs.Tree.{Tree, Node, If, Capture, FilterSection, For, Block, ComponentCall, Definition, Nodes, NoNodes, MoreNodes}
+use Rattle.tera_syntax_tree.specs.Tree.{Tree, Node, Content, If, Capture, FilterSection, For, Block, ComponentCall, Nodes, NoNodes, MoreNodes, Signature, Definitions}
 use Rattle.tera_syntax_tree.specs.Blocks.{node_blocks, blocks, block_names, are_distinct, is_among, has_each_block_once}
-use Rattle.tera_syntax_tree.specs.Definitions.{node_definitions, definitions, component_names, has_each_component_once}
-use Rattle.tera_syntax_tree.specs.Inside.{Within}
+use Rattle.tera_syntax_tree.specs.Definitions.{component_names, has_each_component_once}
+use Rattle.tera_syntax_tree.specs.Inside.{Within, NodeInside, NodesInside}
 use Rattle.tera_syntax_tree.specs.View.{tree_of}
 use Rattle.tera_syntax_tree.specs.declared.node.ParserOutput.{ParserOutput}
 use Rattle.tera_syntax_tokens.specs.Answers.{Answers}
@@ -19,7 +19,7 @@ use Rattle.tera_syntax_tokens.specs.declared.refusal.Refusal.{Refusal}
 use Rattle.tera_syntax_tokens.specs.declared.refusal.Refusal.TheVariants.{Syntax, OutOfMemory}
 use Rattle.tera_syntax.specs.declared.blocks.PlacedName.{PlacedName}
 use Rattle.tera_syntax.specs.File.{once}
-use Rattle.tera_syntax.specs.Names.{NameAt, node_blocks_at, blocks_at, end_after, node_components_at, components_at, first_at, again, tree_doubled, RefusesOnly}
+use Rattle.tera_syntax.specs.Names.{NameAt, node_blocks_at, blocks_at, component_at, components_at, text_start, first_text, first_at, again, tree_doubled, RefusesOnly}
 use Rattle.tera_syntax.specs.Positions.{NamesWithin}
 use Rattle.tera_syntax.specs.View.{names_of}
 
@@ -92,18 +92,14 @@ mutual
   bare-node_blocks_at (Capture n fs body is_global) = bare-blocks_at body
   bare-node_blocks_at (FilterSection fs body) = bare-blocks_at body
   bare-node_blocks_at (ComponentCall n all body span) = bare-blocks_at body
-  bare-node_blocks_at (Definition s body) = bare-blocks_at body
   bare-node_blocks_at _ = refl
 
   bare-blocks_at : (nodes : Nodes) → bare (blocks_at nodes) ≡ block_names nodes
   bare-blocks_at NoNodes = refl
   bare-blocks_at (MoreNodes n rest) = joined (λ n. n.0) (λ b. b.0) (node_blocks_at n) (blocks_at rest) (node_blocks n) (blocks rest) (bare-node_blocks_at n) (bare-blocks_at rest)
 
-bare-components_at : (at : ℕ) (nodes : Nodes) → bare (components_at at nodes) ≡ component_names nodes
-bare-components_at at NoNodes = refl
-bare-components_at at (MoreNodes n rest) =
-    joined (λ n. n.0) (λ d. d.0.name) (node_components_at at n) (components_at (end_after at n) rest) (node_definitions n) (definitions rest)
-    (map-map (λ n. n.0) (λ d. (d.0.name, record { start = at; end = at })) (node_definitions n)) (bare-components_at (end_after at n) rest)
+bare-components_at : (ds : Definitions) → bare (components_at ds) ≡ component_names ds
+bare-components_at ds = map-map (λ n. n.0) component_at ds
 
 guarded : (a b : Bool) (tree : Tree) → (if a && b then Some tree else None) ≡ (if not a || not b then None else Some tree)
 guarded true true tree = refl
@@ -114,11 +110,11 @@ guarded false b tree = refl
 pub once-doubled : (tree : Tree) → once tree ≡ (if is_some (tree_doubled tree) then None else Some tree)
 once-doubled tree =
     let b = blocks_at tree.nodes in
-    let c = components_at 0 tree.nodes in
+    let c = components_at tree.definitions in
     let of_blocks : is_some (again b) ≡ not (has_each_block_once tree.nodes) = some-again b ∙ ap (λ names. not (are_distinct names)) (bare-blocks_at tree.nodes) in
-    let of_components : is_some (again c) ≡ not (has_each_component_once tree.nodes) = some-again c ∙ ap (λ names. not (are_distinct names)) (bare-components_at 0 tree.nodes) in
+    let of_components : is_some (again c) ≡ not (has_each_component_once tree) = some-again c ∙ ap (λ names. not (are_distinct names)) (bare-components_at tree.definitions) in
     let all = some-or _ _ ∙ ap₂ (λ x y. x || y) (some-map _ (again b) ∙ of_blocks) (some-map _ (again c) ∙ of_components) in
-    guarded (has_each_block_once tree.nodes) (has_each_component_once tree.nodes) tree ∙ ap (λ t. if t then None else Some tree) (sym all)
+    guarded (has_each_block_once tree.nodes) (has_each_component_once tree) tree ∙ ap (λ t. if t then None else Some tree) (sym all)
 
 -- a tree stays, or is refused, as it is meant
 pub answers_once : (output : ParserOutput) (result : Result ParserOutput Refusal) → RefusesOnly (tree_doubled (tree_of output)) result → IfOk result (λ given. given ≡ output)
@@ -126,3 +122,16 @@ pub answers_once : (output : ParserOutput) (result : Result ParserOutput Refusal
 answers_once output (Ok given) only same = once-doubled (tree_of output) ∙ ap (λ o. if is_some o then None else Some (tree_of output)) only ∙ ap (λ o. Some (tree_of o)) (sym same)
 answers_once output (Err (Syntax why span)) only same = once-doubled (tree_of output) ∙ ap (λ o. if is_some o then None else Some (tree_of output)) only
 answers_once output (Err OutOfMemory) only same = tt
+
+-- where the first text begins lies where all does
+pub first_text-within : (size : ℕ) (nodes : Nodes) → NodesInside size nodes → first_text nodes ≤ size
+first_text-within size NoNodes inside = omega arith
+first_text-within size (MoreNodes n rest) inside = by_node n inside.0 (first_text-within size rest inside.1)
+  where
+    by_node : (n : Node) → NodeInside size n → first_text rest ≤ size → unwrap_or (text_start n) (first_text rest) ≤ size
+    by_node (Content t span) inside le = let lies : (span.start ≤ span.end) × (span.end ≤ size) = inside in let a = lies.0 in let b = lies.1 in omega (arith, a, b)
+    by_node _ inside le = le
+
+-- a component stands where its body lies
+pub component-within : (size : ℕ) (d : Signature × Nodes) → NodesInside size d.1 → Within size (component_at d).1
+component-within size d inside = let le = first_text-within size d.1 inside in (omega arith, le)

@@ -4,8 +4,8 @@ use Rattle.std.specs.Str.{IsUtf8}
 use Rattle.tera_errors.specs.Site.{Name, Text}
 use Rattle.tera_syntax_tree.specs.Delimiters.{delimiters_of, accepted}
 use Rattle.tera_syntax_tree.specs.declared.delimiters.Delimiters.{Delimiters}
-use Rattle.tera_syntax_tree.specs.Tree.{Expr, Filters, Node, Nodes, Tree}
-use Rattle.tera_syntax_tree.specs.Inside.{Within, ExprInside, EntriesInside, FiltersInside, NodeInside, NodesInside, Inside}
+use Rattle.tera_syntax_tree.specs.Tree.{Expr, Filters, Node, Nodes, NoNodes, MoreNodes, Definitions, Tree}
+use Rattle.tera_syntax_tree.specs.Inside.{Within, ExprInside, EntriesInside, FiltersInside, NodeInside, NodesInside, DefinitionsInside, Inside}
 use Rattle.tera_syntax_tokens.specs.declared.token.Kind.{Kind}
 use Rattle.tera_syntax_tokens.specs.declared.token.Kind.TheVariants as k
 use Rattle.tera_syntax_tokens.specs.Token.{Token}
@@ -17,8 +17,8 @@ use Rattle.tera_syntax_tokens.proofs.Stretches.{PiecesInside, pieces_inside}
 use Rattle.tera_syntax_expressions.proofs.Calls.{calls_lie}
 use Rattle.tera_syntax_expressions.proofs.Inside.{expr_lies, attributes_lie, filters_lie}
 use Rattle.tera_syntax.specs.declared.heads.Surroundings.{Surroundings}
-use Rattle.tera_syntax.specs.Heads.{Head, IfHead, ForHead, SetHead, SectionHead, BlockHead, CallHead, DefinitionHead, make, first}
-use Rattle.tera_syntax.specs.Grammar.{DerivesWhole, whole, DerivesPipe, pipe, Simple, set, includes, Opens, choice, loop, capture, filtered, section, block, call, definition, GoesOn, elif, DerivesNodes, empty, content, blank, comment, print, single, bodied, DerivesRest, ended, split, chained, Front, nothing, space, remark, DerivesFile, root, child}
+use Rattle.tera_syntax.specs.Heads.{Head, IfHead, ForHead, SetHead, SectionHead, BlockHead, CallHead, make, first}
+use Rattle.tera_syntax.specs.Grammar.{DerivesWhole, whole, DerivesPipe, pipe, Simple, set, includes, Opens, choice, loop, capture, filtered, section, block, call, GoesOn, elif, DerivesNodes, empty, content, blank, comment, print, single, bodied, DerivesRest, ended, split, chained, join, DerivesParts, last, component, DerivesFile, root, child}
 use Rattle.tera_syntax.specs.Spells.{Spells}
 
 -- nodes that were read between two positions lie inside, and so do the pieces that are left
@@ -67,7 +67,6 @@ HeadInside size (SetHead n fs is_global) = FiltersInside size fs
 HeadInside size (SectionHead fs) = FiltersInside size fs
 HeadInside size (BlockHead n position) = Within size position
 HeadInside size (CallHead n all position) = EntriesInside size all × Within size position
-HeadInside size (DefinitionHead s) = Unit {0}
 
 -- a word is not the end of a tag
 word-goes-on : (i : Input) → is_word (kind i) ≡ true → kind i ≡ k.End → ⊥
@@ -86,7 +85,6 @@ opens_inside size {q = q} {tokens = tokens} (call {a = a} e w d g f) o =
     let m = onward_next size (next i) n.orderly in
     let p = attributes_lie size d m.orderly in
     (p.inside, stretch_inside size k.Less i (next a) (first_here k.Less q.in_loop tokens e) (λ q. cc) o (onward_then m (onward_then p.onward (onward_next size a p.onward.orderly))))
-opens_inside size (definition t b d e) o = tt
 opens_inside size {q = q} {tokens = tokens} (block m b w n) o =
     let i = next (begin q.in_loop tokens) in
     token_inside size (kind i) i refl (word-goes-on i w) (behind size (begin q.in_loop tokens) o)
@@ -101,7 +99,6 @@ made_inside size (SetHead n fs is_global) body other h b o = (h, b)
 made_inside size (SectionHead fs) body other h b o = (h, b)
 made_inside size (BlockHead n position) body other h b o = (b, h)
 made_inside size (CallHead n all position) body other h b o = (h.0, b, h.1)
-made_inside size (DefinitionHead s) body other h b o = b
 
 mutual
   nodes_lie : (size : ℕ) {q : Surroundings} {nodes : Nodes} {i j : List Piece} → DerivesNodes q nodes i j → PiecesInside size i → Lie size nodes j
@@ -125,14 +122,24 @@ mutual
       let e = rest_lie size o b.rest in
       record { inside = (made_inside size further body other (goes_on_inside size g h.0) b.inside e.inside, tt); rest = e.rest }
 
-front_lies : (size : ℕ) {i j : List Piece} → Front i j → PiecesInside size i → PiecesInside size j
-front_lies size nothing h = h
-front_lies size (space f r) h = front_lies size r h.1
-front_lies size (remark r) h = front_lies size r h.1
+joined_lie : (size : ℕ) (a b : Nodes) → NodesInside size a → NodesInside size b → NodesInside size (join a b)
+joined_lie size NoNodes b p q = q
+joined_lie size (MoreNodes n rest) b p q = (p.0, joined_lie size rest b p.1 q)
 
-file_lies : (size : ℕ) {parent : Option Name} {nodes : Nodes} {i : List Piece} → DerivesFile parent nodes i → PiecesInside size i → NodesInside size nodes
-file_lies size (root d) h = (nodes_lie size d h).inside
-file_lies size (child r e d) h = (nodes_lie size d (front_lies size r h).1).inside
+parts_lie : (size : ℕ) {nodes : Nodes} {ds : Definitions} {i : List Piece} → DerivesParts nodes ds i → PiecesInside size i → NodesInside size nodes × DefinitionsInside size ds
+parts_lie size (last d) h = ((nodes_lie size d h).inside, tt)
+parts_lie size (component {before = before} {nodes = nodes} d a b w r) h =
+    let front = nodes_lie size d h in
+    let body = nodes_lie size b front.rest.1 in
+    let rest = parts_lie size r body.rest.1 in
+    (joined_lie size before nodes front.inside rest.0, (body.inside, rest.1))
+
+file_lies : (size : ℕ) {parent : Option Name} {nodes : Nodes} {ds : Definitions} {i : List Piece} → DerivesFile parent nodes ds i → PiecesInside size i → NodesInside size nodes × DefinitionsInside size ds
+file_lies size (root d) h = parts_lie size d h
+file_lies size (child {front = front} {nodes = nodes} d s e r) h =
+    let before = nodes_lie size d h in
+    let rest = parts_lie size r before.rest.1 in
+    (joined_lie size front nodes before.inside rest.0, rest.1)
 
 pub tree_inside : (name : Name) (d : Delimiters) (text : Text) (tree : Tree) → IsTrue (accepted (delimiters_of d)) → IsUtf8 text → Spells name (delimiters_of d) text tree → Inside (length text) tree
 tree_inside name d text tree usable u spelled = file_lies (length text) spelled (pieces_inside d usable text u)

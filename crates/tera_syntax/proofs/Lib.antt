@@ -8,6 +8,7 @@ pub mod Begun
 pub mod OneTag
 pub mod Complete
 pub mod Sound
+pub mod Beside
 pub mod Placed
 pub mod Extending
 pub mod Plain

@@ -9,18 +9,17 @@ use Rattle.tera_syntax_tokens.specs.Token.{Token}
 use Rattle.tera_syntax_tokens.specs.Input.{Input, Parsed, begin, kind, text, start, next, span, same, is_word}
 use Rattle.tera_syntax_tokens.specs.Cut.{is_alone}
 use Rattle.tera_syntax_tokens.specs.Literal.{literal}
-use Rattle.tera_syntax_tree.specs.Tree.{Expr, Entries, Filters, NoFilters, Signature, Node, Set, Include, Break, Continue}
-use Rattle.tera_syntax_tree.specs.Depth.{depth, entries_depth, filters_depth, parameters_depth, node_depth}
+use Rattle.tera_syntax_tree.specs.Tree.{Expr, Entries, Filters, NoFilters, Node, Set, Include, Break, Continue}
+use Rattle.tera_syntax_tree.specs.Depth.{depth, entries_depth, filters_depth, node_depth}
 use Rattle.tera_syntax_expressions.specs.Grammar.{DerivesAttributes}
 use Rattle.tera_syntax_expressions.specs.Headings.{Names, calls}
-use Rattle.tera_syntax_expressions.specs.Parameters.{DerivesSignature}
 use Rattle.tera_syntax_expressions.proofs.Calls.{calls-got, calls-is}
 use Rattle.tera_syntax_expressions.proofs.Steps.{guard, chosen, either, same-is, same-refl, alike, unlike}
 use Rattle.tera_syntax.specs.declared.heads.Surroundings.{Surroundings}
-use Rattle.tera_syntax.specs.Heads.{Head, IfHead, ForHead, SetHead, SectionHead, BlockHead, CallHead, DefinitionHead, head_depth, end_kind, is_end, is_named, is_call_end, first, ends}
-use Rattle.tera_syntax.specs.Grammar.{DerivesWhole, IsWord, Begins, Quotes, set_word, Simple, set, includes, breaks, continues, DerivesPipe, Opens, choice, loop, capture, filtered, section, block, call, definition, GoesOn, elif}
-use Rattle.tera_syntax.specs.Reader.{Tag, Single, Opening, GoingOn, Dividing, Closing, looping_by, setting, setting_by, sectioning, block_at, blocking, signed, defining, called, calling, quoted_name, including, alone, leaving, named, tag_by, tag, whole, pipe}
-use Rattle.tera_syntax.proofs.Whole.{whole_sound, whole_complete, pipe_sound, pipe_complete, signed_sound, signed_complete, called_sound, called_complete}
+use Rattle.tera_syntax.specs.Heads.{Head, IfHead, ForHead, SetHead, SectionHead, BlockHead, CallHead, head_depth, end_kind, is_end, is_named, is_call_end, first, ends, ends_component}
+use Rattle.tera_syntax.specs.Grammar.{DerivesWhole, IsWord, Begins, Quotes, set_word, Simple, set, includes, breaks, continues, DerivesPipe, Opens, choice, loop, capture, filtered, section, block, call, GoesOn, elif}
+use Rattle.tera_syntax.specs.Reader.{Tag, Single, Opening, GoingOn, Dividing, Closing, looping_by, setting, setting_by, sectioning, block_at, blocking, called, calling, quoted_name, including, alone, leaving, named, tag_by, tag, whole, pipe}
+use Rattle.tera_syntax.proofs.Whole.{both, whole_sound, whole_complete, pipe_sound, pipe_complete, called_sound, called_complete}
 
 -- what is said of a tag with expressions no deeper than this, where it was read
 abbrev pub Meant : ℕ → Surroundings → Surroundings → List Token → Tag → Type 0
@@ -39,10 +38,6 @@ some-is x y h = cc
 
 is-word : (word w : Text) → bytes_eq word w ≡ true → word ≡ w
 is-word word w h = (bytes_eq-Decides word w).0 h
-
-pub both : (a b : Bool) → (a && b) ≡ true → (a ≡ true) × (b ≡ true)
-both true b h = (refl, h)
-both false b h = absurd (cc)
 
 alone-text : (word : Text) (tokens : List Token) → is_alone word tokens ≡ true → text (begin false tokens) ≡ word
 unfolding text
@@ -151,15 +146,6 @@ module _ (limit : ℕ) (q outer : Surroundings) (tokens : List Token) (t : Tag) 
       let f = guard (same k.End (kind (next i))) (Some u) t g.1 in
       said u (block m.0 b g.0 (same-is k.End (kind (next i)) f.0), omega arith) (some-is u t f.1)
 
-  definition-got : Begins (codes "component") tokens → defining q.is_top limit (next (begin false tokens)) ≡ Some t → Says
-  definition-got b h =
-      let i = next (begin false tokens) in
-      let make : Signature → Tag = λ s. Opening (DefinitionHead s) in
-      let g = guard q.is_top (option_map make (signed limit i)) t h in
-      let p = mapped make (signed limit i) t g.1 in
-      let w = signed_sound limit i p.0 p.1 in
-      said (make p.0) (definition g.0 b w.1 w.2, w.3) p.2
-
   call-got : first tokens ≡ k.Less → calling limit (begin q.in_loop tokens) ≡ Some t → Says
   call-got e h =
       let i = begin q.in_loop tokens in
@@ -200,7 +186,7 @@ module _ (limit : ℕ) (q outer : Surroundings) (tokens : List Token) (t : Tag) 
       word-got (codes "set_global") _ _ (λ w. set-got true (e, w)) (
       word-got (codes "filter") _ _ (λ w. section-got (e, w)) (
       word-got (codes "block") _ _ (λ w. block-got (e, w)) (
-      word-got (codes "component") _ _ (λ w. definition-got (e, w)) (
+      word-got (codes "component") _ _ (λ w h. absurd (cc)) (
       word-got (codes "include") _ _ (λ w. include-got (e, w)) (
       word-got (codes "break") _ _ (λ w. leaving-got (codes "break") Break e (λ l w. (breaks l w, omega arith))) (
       word-got (codes "continue") _ _ (λ w. leaving-got (codes "continue") Continue e (λ l w. (continues l w, omega arith)))
@@ -271,16 +257,6 @@ module _ (limit : ℕ) (q outer : Surroundings) (tokens : List Token) where
       ∙ ap (λ (b : Bool). if b then (if same k.End (kind (next i)) then u else None) else None) w
       ∙ ap (λ (b : Bool). if b then u else None) (ap (same k.End) n ∙ same-refl k.End)
 
-  definition-read : {s : Signature} {j : Input} → IsTrue q.is_top → Begins (codes "component") tokens → DerivesSignature s (next (begin false tokens)) j → kind j ≡ k.End → parameters_depth s.parameters ≤ limit
-      → tag limit q outer tokens ≡ Some (Opening (DefinitionHead s))
-  unfolding named
-  definition-read m b d e le =
-      let i = next (begin false tokens) in
-      let make : Signature → Tag = λ s. Opening (DefinitionHead s) in
-      by-word (codes "component") b
-      ∙ ap (λ (b : Bool). if b then option_map make (signed limit i) else None) m
-      ∙ ap (option_map make) (signed_complete d e limit le)
-
   -- a word is no slash
   no-slash : (i : Input) → is_word (kind i) ≡ true → same k.Slash (kind i) ≡ false
   unfolding is_word
@@ -327,7 +303,6 @@ module _ (limit : ℕ) (q outer : Surroundings) (tokens : List Token) where
   opens_read (section b w) le = section-read b w le
   opens_read (block m b w n) le = block-read m b w n
   opens_read (call e w d g f) le = call-read e w d g f le
-  opens_read (definition m b d e) le = definition-read m b d e le
 
   pub goes_on_read : {head : Head} → GoesOn outer head tokens → head_depth head ≤ limit → tag limit q outer tokens ≡ Some (GoingOn head)
   goes_on_read (elif e w) le = by-kind k.Elif e ∙ ap (option_map (λ c. GoingOn (IfHead c))) (whole_complete w limit le)
@@ -357,11 +332,21 @@ module _ (limit : ℕ) (q outer : Surroundings) (tokens : List Token) where
   end-read (SectionHead fs) e h = by-end e (codes "endfilter") refl h
   end-read (BlockHead n position) e h = named-end e (codes "endblock") n refl (is_alone (codes "endblock") tokens) refl h
   end-read (CallHead n all position) e h = by-kind k.Less e ∙ ap (λ (b : Bool). if b then Some Closing else option_map Opening (called limit (start (begin q.in_loop tokens)) (next (begin q.in_loop tokens)))) (slash-text q.in_loop n tokens h)
-  end-read (DefinitionHead s) e h = named-end e (codes "endcomponent") s.name refl (is_alone (codes "endcomponent") tokens) refl h
 
   pub extends_read : Begins (codes "extends") tokens → tag limit q outer tokens ≡ Some Closing
   unfolding named
   extends_read b = by-word (codes "extends") b
+
+  -- a component is defined outside of all statements
+  pub component_unread : Begins (codes "component") tokens → tag limit q outer tokens ≡ None
+  unfolding named
+  component_unread b = by-word (codes "component") b
+
+  pub component_end_read : (name : Name) → IsTrue (ends_component name tokens) → tag limit q outer tokens ≡ Some Closing
+  unfolding named
+  component_end_read name h =
+      let p = both (same k.Name (first tokens)) (is_alone (codes "endcomponent") tokens || is_named (codes "endcomponent") name tokens) h in
+      named-end (same-is k.Name (first tokens) p.0) (codes "endcomponent") name refl (is_alone (codes "endcomponent") tokens) refl p.1
 
   pub ends_read : (head : Head) → IsTrue (ends head tokens) → tag limit q outer tokens ≡ Some Closing
   ends_read head h =

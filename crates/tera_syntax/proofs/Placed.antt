@@ -1,15 +1,16 @@
--- In what is derived, `break`, `continue`, blocks and the definitions of components stand in their places.
-use Rattle.std.proofs.Common.{◌≡◌, Bool, true, false, ◌&&◌, List, IsTrue, refl}
+-- In what is derived, `break`, `continue` and blocks stand in their places.
+use Rattle.std.proofs.Common.{◌≡◌, Bool, true, false, ◌&&◌, List, [], ◌∷◌, ◌++◌, IsTrue, refl, sym, ap, ap₂, ◌∙◌}
 use Rattle.tera_syntax_tokens.specs.Token.{Token}
 use Rattle.tera_syntax_tokens.specs.Cut.{Piece}
-use Rattle.tera_syntax_tree.specs.Tree.{Node, Nodes}
-use Rattle.tera_syntax_tree.specs.Leaving.{node_in_place, in_place}
-use Rattle.tera_syntax_tree.specs.Definitions.{node_defined_in_place, defined_in_place}
+use Rattle.tera_syntax_tree.specs.Tree.{Node, Nodes, NoNodes, MoreNodes, Definitions}
+use Rattle.tera_syntax_tree.specs.Leaving.{node_in_place, in_place, definitions_in_place}
+use Rattle.tera_syntax_tree.specs.Blocks.{node_blocks, blocks}
+use Rattle.tera_syntax_tree.specs.Definitions.{is_empty, have_no_blocks}
 use Rattle.tera_syntax.specs.declared.heads.Surroundings.{Surroundings}
-use Rattle.tera_syntax.specs.Heads.{Head, IfHead, ForHead, BlockHead, DefinitionHead, nested, make, inside}
-use Rattle.tera_syntax.specs.Grammar.{Simple, set, breaks, continues, Opens, block, definition, elif, DerivesNodes, empty, content, blank, comment, print, single, bodied, DerivesRest, ended, split, chained}
+use Rattle.tera_syntax.specs.Heads.{Head, IfHead, ForHead, SetHead, SectionHead, BlockHead, CallHead, in_component, make, inside}
+use Rattle.tera_syntax.specs.Grammar.{Simple, set, includes, breaks, continues, Opens, block, elif, join, DerivesNodes, empty, content, blank, comment, print, single, bodied, DerivesRest, ended, split, chained, DerivesParts, last, component}
 
-and-true : (a b : Bool) → a ≡ true → b ≡ true → (a && b) ≡ true
+pub and-true : (a b : Bool) → a ≡ true → b ≡ true → (a && b) ≡ true
 and-true true b e f = f
 and-true false b e f = absurd (cc)
 
@@ -40,44 +41,77 @@ mutual
   rest_placed {q = q} (chained {further = f} {body = body} {other = other} s g d o) =
       and-true (node_in_place q.may_leave (make f body other)) true (made_placed q f body other (derived_placed d) (rest_placed o)) refl
 
-simple_defined : {q : Surroundings} {node : Node} {tokens : List Token} → Simple q node tokens → IsTrue (node_defined_in_place q.is_top q.may_have_blocks node)
-simple_defined (set b n w) = refl
-simple_defined _ = refl
+and-and : (a b c : Bool) → (a && b) ≡ true → c ≡ true → (a && (b && c)) ≡ true
+and-and true true c e f = f
+and-and true false c e f = absurd (cc)
+and-and false b c e f = absurd (cc)
+
+-- two rows, one behind the other
+pub joined_placed : (a b : Nodes) → IsTrue (in_place false a) → IsTrue (in_place false b) → IsTrue (in_place false (join a b))
+joined_placed NoNodes b p r = r
+joined_placed (MoreNodes n rest) b p r = with_node (node_in_place false n) (in_place false rest) (in_place false (join rest b)) p (λ q. joined_placed rest b q r)
+  where
+    with_node : (a b c : Bool) → (a && b) ≡ true → (b ≡ true → c ≡ true) → (a && c) ≡ true
+    with_node true b c e f = f e
+    with_node false b c e f = absurd (cc)
+
+-- Where no block may stand, there is none
+
+simple_bare : {q : Surroundings} {node : Node} {tokens : List Token} → Simple q node tokens → node_blocks node ≡ []
+simple_bare (set b n w) = refl
+simple_bare (includes w) = refl
+simple_bare (breaks l w) = refl
+simple_bare (continues l w) = refl
 
 -- a statement with this head may stand here
 abbrev MayOpen : Surroundings → Head → Type 0
 MayOpen q (BlockHead n span) = IsTrue q.may_have_blocks
-MayOpen q (DefinitionHead s) = IsTrue q.is_top
 MayOpen q _ = Unit {0}
 
 opens_may : {q : Surroundings} {head : Head} {tokens : List Token} → Opens q head tokens → MayOpen q head
 opens_may (block m b w n) = m
-opens_may (definition m b d e) = m
 opens_may _ = tt
 
-made_defined : (q : Surroundings) (head : Head) (body other : Nodes) → MayOpen q head → IsTrue (defined_in_place (inside head q).is_top (inside head q).may_have_blocks body)
-    → IsTrue (defined_in_place false q.may_have_blocks other) → IsTrue (node_defined_in_place q.is_top q.may_have_blocks (make head body other))
-made_defined q (IfHead c) body other m b o = and-true (defined_in_place false q.may_have_blocks body) (defined_in_place false q.may_have_blocks other) b o
-made_defined q (ForHead key n e) body other m b o = and-true (defined_in_place false q.may_have_blocks body) (defined_in_place false q.may_have_blocks other) b o
-made_defined q (BlockHead n span) body other m b o = and-true q.may_have_blocks (defined_in_place false q.may_have_blocks body) m b
-made_defined q (DefinitionHead s) body other m b o = and-true q.is_top (defined_in_place false false body) m b
-made_defined q _ body other m b o = b
+inside_may : (q : Surroundings) (head : Head) → (inside head q).may_have_blocks ≡ q.may_have_blocks
+inside_may q (ForHead key n e) = refl
+inside_may q (BlockHead n span) = refl
+inside_may q _ = refl
+
+made_bare : (q : Surroundings) (head : Head) (body other : Nodes) → MayOpen q head → q.may_have_blocks ≡ false → blocks body ≡ [] → blocks other ≡ [] → node_blocks (make head body other) ≡ []
+made_bare q (IfHead c) body other m n b o = ap₂ (λ x y. x ++ y) b o
+made_bare q (ForHead key name e) body other m n b o = ap₂ (λ x y. x ++ y) b o
+made_bare q (SetHead name fs is_global) body other m n b o = b
+made_bare q (SectionHead fs) body other m n b o = b
+made_bare q (BlockHead name span) body other m n b o = let e : true ≡ false = sym m ∙ n in absurd (cc)
+made_bare q (CallHead name all span) body other m n b o = b
 
 mutual
-  pub derived_defined : {q : Surroundings} {x : Nodes} {i j : List Piece} → DerivesNodes q x i j → IsTrue (defined_in_place q.is_top q.may_have_blocks x)
-  derived_defined empty = refl
-  derived_defined (content n d) = derived_defined d
-  derived_defined (blank d) = derived_defined d
-  derived_defined (comment d) = derived_defined d
-  derived_defined (print w d) = derived_defined d
-  derived_defined {q = q} (single {node = n} {rest = rest} a d) =
-      and-true (node_defined_in_place q.is_top q.may_have_blocks n) (defined_in_place q.is_top q.may_have_blocks rest) (simple_defined a) (derived_defined d)
-  derived_defined {q = q} (bodied {head = h} {body = body} {other = other} {rest = rest} a b o d) =
-      and-true (node_defined_in_place q.is_top q.may_have_blocks (make h body other)) (defined_in_place q.is_top q.may_have_blocks rest)
-      (made_defined q h body other (opens_may a) (derived_defined b) (rest_defined o)) (derived_defined d)
+  derived_bare : {q : Surroundings} {x : Nodes} {i j : List Piece} → q.may_have_blocks ≡ false → DerivesNodes q x i j → blocks x ≡ []
+  derived_bare e empty = refl
+  derived_bare e (content n d) = derived_bare e d
+  derived_bare e (blank d) = derived_bare e d
+  derived_bare e (comment d) = derived_bare e d
+  derived_bare e (print w d) = derived_bare e d
+  derived_bare e (single a d) = ap₂ (λ x y. x ++ y) (simple_bare a) (derived_bare e d)
+  derived_bare {q = q} e (bodied {head = h} {body = body} {other = other} a b o d) =
+      ap₂ (λ x y. x ++ y) (made_bare q h body other (opens_may a) e (derived_bare (inside_may q h ∙ e) b) (rest_bare e o)) (derived_bare e d)
 
-  rest_defined : {q : Surroundings} {head : Head} {x : Nodes} {i j : List Piece} → DerivesRest q head x i j → IsTrue (defined_in_place false q.may_have_blocks x)
-  rest_defined (ended e) = refl
-  rest_defined (split s w d e) = derived_defined d
-  rest_defined {q = q} (chained {body = body} {other = other} s (elif {c = c} e w) d o) =
-      and-true (node_defined_in_place false q.may_have_blocks (make (IfHead c) body other)) true (made_defined (nested q) (IfHead c) body other tt (derived_defined d) (rest_defined o)) refl
+  rest_bare : {q : Surroundings} {head : Head} {x : Nodes} {i j : List Piece} → q.may_have_blocks ≡ false → DerivesRest q head x i j → blocks x ≡ []
+  rest_bare e (ended w) = refl
+  rest_bare e (split s w d f) = derived_bare e d
+  rest_bare {q = q} e (chained {body = body} {other = other} s (elif {c = c} f w) d o) = ap₂ (λ x y. x ++ y) (made_bare q (IfHead c) body other tt e (derived_bare e d) (rest_bare e o)) refl
+
+-- All of a text
+
+pub parts_placed : {x : Nodes} {ds : Definitions} {i : List Piece} → DerivesParts x ds i → IsTrue (in_place false x && definitions_in_place ds)
+parts_placed {x = x} (last d) = and-true (in_place false x) true (derived_placed d) refl
+parts_placed (component {before = before} {body = body} {nodes = nodes} {definitions = ds} d a b w r) =
+    with_component (in_place false nodes) (in_place false (join before nodes)) (in_place false body) (definitions_in_place ds) (parts_placed r) (λ p. joined_placed before nodes (derived_placed d) p) (derived_placed b)
+  where
+    with_component : (n j b c : Bool) → (n && c) ≡ true → (n ≡ true → j ≡ true) → b ≡ true → (j && (b && c)) ≡ true
+    with_component true j b c e f g = and-and j b c (and-true j b (f refl) g) e
+    with_component false j b c e f g = absurd (cc)
+
+pub parts_outside : {x : Nodes} {ds : Definitions} {i : List Piece} → DerivesParts x ds i → IsTrue (have_no_blocks ds)
+parts_outside (last d) = refl
+parts_outside (component {body = body} {definitions = ds} d a b w r) = and-true (is_empty (blocks body)) (have_no_blocks ds) (ap is_empty (derived_bare refl b)) (parts_outside r)

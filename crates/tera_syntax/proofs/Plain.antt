@@ -11,7 +11,7 @@ use Rattle.tera_syntax_tokens.specs.declared.refusal.Refusal.TheVariants.{Syntax
 use Rattle.tera_syntax_tokens.specs.Bytes.{position}
 use Rattle.tera_syntax_tokens.specs.Cut.{Piece, Words, FoundPiece, words, trims_before, opening_at, opens, piece, cut, pieces}
 use Rattle.tera_syntax_tree.specs.Delimiters.{Delims}
-use Rattle.tera_syntax_tree.specs.Depth.{nodes_depth, max_tree_depth}
+use Rattle.tera_syntax_tree.specs.Depth.{tree_depth, max_tree_depth}
 use Rattle.tera_syntax.specs.File.{spelled, file}
 use Rattle.tera_syntax.specs.Reads.{SpellsNone}
 use Rattle.tera_syntax.specs.Spells.{Spells}
@@ -89,7 +89,7 @@ unread_by false d text o l e h =
     let f : file max_tree_depth (pieces d text) ≡ Some w.0 = ap (file max_tree_depth) p ∙ w.1 in cc
 
 unread_opens : (d : Delims) (text : Text) → position (opens d) text ≡ length text → file max_tree_depth (pieces d text) ≡ None → ⊥
-unread_opens d [] e h = let f : file max_tree_depth (pieces d []) ≡ Some (record { parent = None; nodes = NoNodes }) = ap (file max_tree_depth) (cut_nothing d false 0 [] refl) in cc
+unread_opens d [] e h = let f : file max_tree_depth (pieces d []) ≡ Some (record { parent = None; nodes = NoNodes; definitions = [] }) = ap (file max_tree_depth) (cut_nothing d false 0 [] refl) in cc
 unread_opens d (b ∷ bs) e h = unread_by (opens d (b ∷ bs)) d (b ∷ bs) refl (omega arith) e h
 
 pub plain : (d : Delims) (text : Text) → file max_tree_depth (pieces d text) ≡ None → (at : ℕ) × IsTrue (opens d (drop at text))
@@ -102,7 +102,7 @@ plain d text h =
 -- a text spells one tree at most
 pub one_tree : (name : Name) (d : Delims) (text : Text) (one other : Tree) → Spells name d text one → Spells name d text other → one ≡ other
 one_tree name d text one other h k =
-    let m = suc (max (nodes_depth one.nodes) (nodes_depth other.nodes)) in
+    let m = suc (max (tree_depth one) (tree_depth other)) in
     let a : spelled m (pieces d text) ≡ Some one = spelled_complete m h (omega arith) (omega arith) in
     let b : spelled m (pieces d text) ≡ Some other = spelled_complete m k (omega arith) (omega arith) in
     let e : Some one ≡ Some other = sym a ∙ b in cc

@@ -1,7 +1,8 @@
 -- Rows of nodes, and what is open around them.
-use Rattle.std.proofs.Common.{◌≡◌, ℕ, ◌-◌, ◌≤◌, ◌<◌, max, List, [], ◌∷◌, Bool, true, false, ◌==◌, Option, Some, None, refl, sym, ap, ◌∙◌, arith, length, drop, get_or, reverse, ◌++◌, map}
+use Rattle.std.proofs.Common.{◌≡◌, ℕ, suc, ◌-◌, ◌≤◌, ◌<◌, max, List, [], ◌∷◌, Bool, true, false, ◌==◌, Option, Some, None, refl, sym, ap, ◌∙◌, arith, length, drop, get_or, reverse, ◌++◌, map}
 use Rattle.tera_errors.specs.Site.{Text}
-use Rattle.std.proofs.lemmas.List.{drop_more, get_or-reverse, length-reverse, reverse-append}
+use Rattle.std.proofs.lemmas.Bool.Decides.{Decides-eqb}
+use Rattle.std.proofs.lemmas.List.{drop_more, get_or-reverse, length-map, length-reverse, reverse-append}
 use Rattle.std.proofs.lemmas.Option.{get_or_from_slice_get, slice_get-get_or, slice_get_within}
 use Rattle.std.specs.List.{slice_get}
 use Rattle.tera_syntax_tokens.specs.Token.{Token}
@@ -10,9 +11,26 @@ use Rattle.tera_syntax_tree.specs.Depth.{node_depth, nodes_depth}
 use Rattle.tera_syntax_tree.specs.declared.node.Node as declared
 use Rattle.tera_syntax_tree.specs.View.{node_of, nodes_of}
 use Rattle.tera_syntax.specs.Heads.{Head, ends}
-use Rattle.tera_syntax.specs.Reader.{OpenStatement, closed, join, one, shut, divided}
+use Rattle.tera_syntax.specs.Grammar.{join}
+use Rattle.tera_syntax.specs.Reader.{OpenStatement, closed, one, shut, divided}
+use Rattle.tera_syntax.specs.Parts.{none_open}
 use Rattle.tera_syntax.specs.View.{statement_of, statements_of, head_of}
 use Rattle.tera_syntax.specs.declared.progress.OpenStatement as statement
+
+zero-not : (n : ℕ) → (suc n == 0) ≡ false
+zero-not n = go (suc n == 0) (Decides-eqb (suc n) 0).0
+  where
+    go : (b : Bool) → (b ≡ true → suc n ≡ 0) → b ≡ false
+    go true h = let z : suc n ≡ 0 = h refl in absurd (omega (arith, z))
+    go false h = refl
+
+open-by-length : (fs : List OpenStatement) → (length fs == 0) ≡ none_open fs
+open-by-length [] = refl
+open-by-length (f ∷ fs) = zero-not (length fs)
+
+-- whether nothing is open in memory
+pub none-open : (fs : List statement.OpenStatement) → (length fs == 0) ≡ none_open (statements_of fs)
+none-open fs = ap (λ n. n == 0) (sym (length-map (reverse fs) statement_of ∙ length-reverse fs)) ∙ open-by-length (statements_of fs)
 
 pub join-none : (m : Nodes) → join m NoNodes ≡ m
 join-none NoNodes = refl
@@ -65,8 +83,11 @@ module _ (fs : List statement.OpenStatement) {f : statement.OpenStatement} (last
   shut_otherwise tokens found h = at_innermost (λ fs. shut tokens fs found) (λ fs. None) (λ rest. rw h refl)
 
 -- how deep rows are
-deepest : (limit a b : ℕ) → a ≤ limit → b ≤ limit → max a b ≤ limit
+pub deepest : (limit a b : ℕ) → a ≤ limit → b ≤ limit → max a b ≤ limit
 deepest limit a b h k = grind arith
+
+pub both-fit : (a b limit : ℕ) → max a b ≤ limit → (a ≤ limit) × (b ≤ limit)
+both-fit a b limit le = (omega arith, omega arith)
 
 first-le : (a b limit : ℕ) → max a b ≤ limit → a ≤ limit
 first-le a b limit h = omega arith
@@ -78,6 +99,14 @@ pub deep : (a b : Nodes) (limit : ℕ) → nodes_depth a ≤ limit → nodes_dep
 deep NoNodes b limit h k = k
 deep (MoreNodes n rest) b limit h k =
     deepest limit (node_depth n) (nodes_depth (join rest b)) (first-le (node_depth n) (nodes_depth rest) limit h) (deep rest b limit (rest-le (node_depth n) (nodes_depth rest) limit h) k)
+
+max-assoc : (a b c : ℕ) → max a (max b c) ≡ max (max a b) c
+max-assoc a b c = omega arith
+
+-- a row is as deep as the deeper of its halves
+pub join-deep : (a b : Nodes) → nodes_depth (join a b) ≡ max (nodes_depth a) (nodes_depth b)
+join-deep NoNodes b = omega arith
+join-deep (MoreNodes n rest) b = ap (max (node_depth n)) (join-deep rest b) ∙ max-assoc (node_depth n) (nodes_depth rest) (nodes_depth b)
 
 pub some_bytes : (text : Text) → (length text == 0) ≡ false → 0 < length text
 some_bytes [] h = absurd (cc)

@@ -10,14 +10,14 @@ use Rattle.tera_syntax.specs.TreeRead.{tree_read, IsSpelled, IsReading}
 use Rattle.tera_syntax.specs.File.{file}
 use Rattle.tera_syntax.specs.Laws.{ReadsAsSpelled, AnswersAsRead}
 use Rattle.tera_syntax.specs.Reads.{Reads}
-use Rattle.tera_syntax.proofs.Extending.{file_sound, file_placed, file_defined}
+use Rattle.tera_syntax.proofs.Extending.{file_sound, file_placed, file_outside}
 use Rattle.tera_syntax.proofs.Plain.{spells_none, one_tree}
 
 module _ (name : Name) (d : Delims) (text : Text) where
   spelled-by : (o : Option Tree) → file max_tree_depth (pieces d text) ≡ o → IsSpelled name d text o
   spelled-by (Some tree) h =
       let s = file_sound max_tree_depth (pieces d text) tree h in
-      (s.0, (s.1, file_placed s.0, s.2.0, file_defined s.0, s.2.1), λ other w k. one_tree name d text other tree k s.0)
+      (s.0, (s.1, file_placed s.0, s.2.0, file_outside s.0, s.2.1), λ other w k. one_tree name d text other tree k s.0)
   spelled-by None h = spells_none name d text h
 
   answer-by : (o : Option Tree) → IsSpelled name d text o → (answer : Result Tree Fault) → Reads name d text answer → IsReading name text o answer

@@ -1,17 +1,20 @@
 -- An expression, filters, a signature or a call that are all from here to the end of a tag.
-use Rattle.std.proofs.Common.{◌≡◌, ℕ, zero, suc, ◌≤◌, ◌<◌, nat_lt, length, Bool, true, false, Some, None, if◌then◌else◌, refl, ap, subst, arith}
+use Rattle.std.proofs.Common.{◌≡◌, ℕ, zero, suc, ◌≤◌, ◌<◌, nat_lt, length, List, Bool, true, false, ◌&&◌, Some, None, if◌then◌else◌, bytes_eq, codes, refl, ap, ap₂, ◌∙◌, subst, arith}
+use Rattle.std.proofs.lemmas.Slice.Eq.{bytes_eq-Decides}
+use Rattle.tera_errors.specs.Site.{Text}
 use Rattle.std.proofs.lemmas.Grind.{common_steps}
 use Rattle.tera_syntax_tokens.specs.declared.token.Kind.TheVariants as k
 use Rattle.tera_syntax_tokens.specs.declared.token.Kind.{Kind}
-use Rattle.tera_syntax_tokens.specs.Input.{Input, Parsed, kind, text, next, span, same, is_word}
+use Rattle.tera_syntax_tokens.specs.Input.{Input, Parsed, begin, kind, text, next, span, same, is_word}
+use Rattle.tera_syntax_tokens.specs.Token.{Token}
 use Rattle.tera_syntax_expressions.specs.Expressions.{Deep, expr, filters, attributes}
 use Rattle.tera_syntax_expressions.specs.Parameters.{DerivesSignature, signature}
 use Rattle.tera_syntax_expressions.specs.Arguments.{begins_attribute}
 use Rattle.tera_syntax_tree.specs.Tree.{Expr, Entries, Filters, Signature, Node}
 use Rattle.tera_syntax_tree.specs.Depth.{depth, entries_depth, filters_depth, parameters_depth}
 use Rattle.tera_syntax_expressions.specs.Grammar.{Derives, DerivesAttributes, DerivesFilters}
-use Rattle.tera_syntax.specs.Grammar.{DerivesWhole, whole, DerivesPipe, pipe}
-use Rattle.tera_syntax.specs.Heads.{Head, CallHead}
+use Rattle.tera_syntax.specs.Grammar.{DerivesWhole, whole, DerivesPipe, pipe, Begins, Defines, defines}
+use Rattle.tera_syntax.specs.Heads.{Head, CallHead, first, is_begun_by, is_component}
 use Rattle.tera_syntax.specs.Reader as r
 use Rattle.tera_syntax_expressions.proofs.Steps.{guard, alike, same-is}
 use Rattle.tera_syntax_expressions.proofs.Sound.{what_is_read}
@@ -19,6 +22,10 @@ use Rattle.tera_syntax_expressions.proofs.Complete.{complete}
 use Rattle.tera_syntax_expressions.proofs.Sections.{filters_are_derived, filters_are_read}
 use Rattle.tera_syntax_expressions.proofs.AttributeLaws.{attributes_are_derived, attributes_are_read}
 use Rattle.tera_syntax_expressions.proofs.Signatures.{what_is_signed, signature_is}
+
+pub both : (a b : Bool) → (a && b) ≡ true → (a ≡ true) × (b ≡ true)
+both true b h = (refl, h)
+both false b h = absurd (cc)
 
 ended_by : {A : Type 0} (q : Bool) (x y : A) → (if q then Some x else None) ≡ Some y → (q ≡ true) × (x ≡ y)
 ended_by true x y h = (refl, cc)
@@ -62,6 +69,27 @@ signed_sound limit i s h =
 pub signed_complete : {s : Signature} {i j : Input} → DerivesSignature s i j → kind j ≡ k.End → (limit : ℕ) → parameters_depth s.parameters ≤ limit → r.signed limit i ≡ Some s
 unfolding r.signed
 signed_complete {j = j} d e limit le = rw (signature_is d limit le, alike k.End (kind j) e) refl
+
+-- A tag that begins with a word
+
+pub begun_sound : (word : Text) (tokens : List Token) → is_begun_by word tokens ≡ true → Begins word tokens
+begun_sound word tokens e =
+    let p = both (same k.Name (first tokens)) (bytes_eq (text (begin false tokens)) word) e in
+    (same-is k.Name (first tokens) p.0, (bytes_eq-Decides (text (begin false tokens)) word).0 p.1)
+
+pub begun_complete : (word : Text) (tokens : List Token) → Begins word tokens → is_begun_by word tokens ≡ true
+begun_complete word tokens b =
+    ap₂ (λ x y. x && y) (alike k.Name (first tokens) b.0) (ap (λ w. bytes_eq w word) b.1 ∙ (bytes_eq-Decides word word).1 refl)
+
+-- A tag that defines a component
+
+pub defines_sound : (limit : ℕ) (tokens : List Token) (s : Signature) → is_component tokens ≡ true → r.signed limit (next (begin false tokens)) ≡ Some s → Defines s tokens × (parameters_depth s.parameters ≤ limit)
+defines_sound limit tokens s e h =
+    let w = signed_sound limit (next (begin false tokens)) s h in
+    (defines (begun_sound (codes "component") tokens e) w.1 w.2, w.3)
+
+pub defines_complete : {s : Signature} {tokens : List Token} → Defines s tokens → (limit : ℕ) → parameters_depth s.parameters ≤ limit → (is_component tokens ≡ true) × (r.signed limit (next (begin false tokens)) ≡ Some s)
+defines_complete {tokens = tokens} (defines b d e) limit le = (begun_complete (codes "component") tokens b, signed_complete d e limit le)
 
 -- a call's name and attributes, from behind the `<` that stands at a position
 pub record Calls (limit from : ℕ) (i : Input) (head : Head) : Type 0 where

@@ -1,9 +1,9 @@
--- What pieces derive: nodes, and what they extend.
-use Rattle.std.specs.Prelude.{◌≡◌, ◌≢◌, List, [], ◌∷◌, length, ◌==◌, Bool, true, false, Option, Some, None, codes, IsTrue}
+-- What pieces derive: nodes, components that are defined between them, and what they extend.
+use Rattle.std.specs.Prelude.{◌≡◌, ◌≢◌, List, [], ◌∷◌, length, ◌==◌, Bool, true, false, ◌&&◌, Option, Some, None, codes, IsTrue}
 use Rattle.std.specs.Str.{trim_start}
 use Rattle.tera_errors.specs.Site as site
 use Rattle.tera_errors.specs.declared.span.Span.{Span}
-use Rattle.tera_syntax_tree.specs.Tree.{Expr, Entries, Filters, NoFilters, Signature, Content, Print, Set, Include, Break, Continue, Node, Nodes, NoNodes, MoreNodes}
+use Rattle.tera_syntax_tree.specs.Tree.{Expr, Entries, Filters, NoFilters, Signature, Content, Print, Set, Include, Break, Continue, Node, Nodes, NoNodes, MoreNodes, Definitions}
 use Rattle.tera_syntax_tokens.specs.declared.token.Kind.{Kind}
 use Rattle.tera_syntax_tokens.specs.declared.token.Kind.TheVariants as k
 use Rattle.tera_syntax_tokens.specs.Token.{Token}
@@ -14,7 +14,7 @@ use Rattle.tera_syntax_expressions.specs.Grammar.{Derives, DerivesAttributes, De
 use Rattle.tera_syntax_expressions.specs.Headings.{Names, Calls}
 use Rattle.tera_syntax_expressions.specs.Parameters.{DerivesSignature}
 use Rattle.tera_syntax.specs.declared.heads.Surroundings.{Surroundings}
-use Rattle.tera_syntax.specs.Heads.{Head, IfHead, ForHead, SetHead, SectionHead, BlockHead, CallHead, DefinitionHead, outside, nested, make, splits, chains, inside, first, ends}
+use Rattle.tera_syntax.specs.Heads.{Head, IfHead, ForHead, SetHead, SectionHead, BlockHead, CallHead, outside, in_component, make, splits, chains, inside, first, ends, ends_component}
 
 -- The tokens from here to the end of the tag are the expression.
 pub data DerivesWhole : Expr → Input → Type 0 where
@@ -96,10 +96,6 @@ pub data Opens : Surroundings → Head → List Token → Type 0 where
       → Opens q
       (CallHead (text (next (begin q.in_loop tokens))) xs
       (span (start (begin q.in_loop tokens)) (next a))) tokens
-  definition : {q : Surroundings} {s : Signature} {j : Input} {tokens : List Token}
-      → IsTrue q.is_top → Begins (codes "component") tokens
-      → DerivesSignature s (next (begin false tokens)) j → kind j ≡ k.End
-      → Opens q (DefinitionHead s) tokens
 
 -- A tag that goes on with a statement: what follows is a statement that stands alone in the other
 -- body.
@@ -136,12 +132,34 @@ mutual
         → IsTrue (ends head tokens) → DerivesRest q head NoNodes (Block tokens ∷ i) i
     split : {q : Surroundings} {head : Head} {tokens last : List Token} {body : Nodes}
         {i j : List Piece} → IsTrue (splits head) → IsWord k.Else (codes "else") tokens
-        → DerivesNodes (nested q) body i (Block last ∷ j) → IsTrue (ends head last)
+        → DerivesNodes q body i (Block last ∷ j) → IsTrue (ends head last)
         → DerivesRest q head body (Block tokens ∷ i) j
     chained : {q : Surroundings} {head further : Head} {tokens : List Token} {body other : Nodes}
         {i m j : List Piece} → IsTrue (chains head) → GoesOn q further tokens
         → DerivesNodes (inside further q) body i m → DerivesRest q further other m j
         → DerivesRest q head (MoreNodes (make further body other) NoNodes) (Block tokens ∷ i) j
+
+-- The tag defines a component with this signature.
+pub data Defines : Signature → List Token → Type 0 where
+  defines : {s : Signature} {j : Input} {tokens : List Token} → Begins (codes "component") tokens
+      → DerivesSignature s (next (begin false tokens)) j → kind j ≡ k.End → Defines s tokens
+
+-- nodes, and more behind them
+abbrev pub join : Nodes → Nodes → Nodes
+join NoNodes more = more
+join (MoreNodes node rest) more = MoreNodes node (join rest more)
+
+-- The pieces from here to the end of the text are nodes, and between these, outside of all of them,
+-- components that are defined.
+pub data DerivesParts : Nodes → Definitions → List Piece → Type 0 where
+  last : {nodes : Nodes} {i : List Piece} → DerivesNodes outside nodes i []
+      → DerivesParts nodes [] i
+  component : {before body nodes : Nodes} {s : Signature} {definitions : Definitions}
+      {tokens end : List Token} {i m j : List Piece}
+      → DerivesNodes outside before i (Block tokens ∷ m) → Defines s tokens
+      → DerivesNodes in_component body m (Block end ∷ j) → IsTrue (ends_component s.name end)
+      → DerivesParts nodes definitions j
+      → DerivesParts (join before nodes) ((s, body) ∷ definitions) i
 
 -- the tag is `extends` and this name in quotes
 abbrev pub Extends : site.Name → List Token → Type 0
@@ -151,18 +169,19 @@ Extends name tokens = Quotes (codes "extends") name tokens
 abbrev pub is_space : site.Text → Bool
 is_space words = length (trim_start words) == 0
 
--- The pieces from the first position to the second are white space and comments.
-pub data Front : List Piece → List Piece → Type 0 where
-  nothing : {i : List Piece} → Front i i
-  space : {words : site.Text} {position : Span} {i j : List Piece} → IsTrue (is_space words)
-      → Front i j → Front (Words words position ∷ i) j
-  remark : {i j : List Piece} → Front i j → Front (Comment ∷ i) j
+-- texts of nothing but white space
+abbrev pub are_spaces : Nodes → Bool
+are_spaces NoNodes = true
+are_spaces (MoreNodes (Content words position) rest) = is_space words && are_spaces rest
+are_spaces (MoreNodes node rest) = false
 
--- All pieces of a text are nodes. Where it extends a template, the tag stands before them, and what
--- stands before the tag is no node.
-pub data DerivesFile : Option site.Name → Nodes → List Piece → Type 0 where
-  root : {nodes : Nodes} {i : List Piece} → DerivesNodes outside nodes i []
-      → DerivesFile None nodes i
-  child : {name : site.Name} {tokens : List Token} {nodes : Nodes} {i j : List Piece}
-      → Front i (Block tokens ∷ j) → Extends name tokens → DerivesNodes outside nodes j []
-      → DerivesFile (Some name) nodes i
+-- All pieces of a text are nodes and components. Where it extends a template, nothing stands before
+-- the tag but white space and comments.
+pub data DerivesFile : Option site.Name → Nodes → Definitions → List Piece → Type 0 where
+  root : {nodes : Nodes} {definitions : Definitions} {i : List Piece}
+      → DerivesParts nodes definitions i → DerivesFile None nodes definitions i
+  child : {name : site.Name} {tokens : List Token} {front nodes : Nodes}
+      {definitions : Definitions} {i j : List Piece}
+      → DerivesNodes outside front i (Block tokens ∷ j) → IsTrue (are_spaces front)
+      → Extends name tokens → DerivesParts nodes definitions j
+      → DerivesFile (Some name) (join front nodes) definitions i

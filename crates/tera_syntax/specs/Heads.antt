@@ -2,8 +2,8 @@
 use Rattle.std.specs.Prelude.{ℕ, List, [], ◌∷◌, Bool, true, false, ◌&&◌, ◌||◌, bytes_eq, codes, Option}
 use Rattle.tera_errors.specs.Site as site
 use Rattle.tera_errors.specs.declared.span.Span.{Span}
-use Rattle.tera_syntax_tree.specs.Tree.{Expr, Entries, Filters, Signature, If, For, Capture, FilterSection, Block, ComponentCall, Definition, Node, Nodes}
-use Rattle.tera_syntax_tree.specs.Depth.{depth, entries_depth, filters_depth, parameters_depth}
+use Rattle.tera_syntax_tree.specs.Tree.{Expr, Entries, Filters, If, For, Capture, FilterSection, Block, ComponentCall, Node, Nodes}
+use Rattle.tera_syntax_tree.specs.Depth.{depth, entries_depth, filters_depth}
 use Rattle.tera_syntax_tokens.specs.declared.token.Kind.{Kind}
 use Rattle.tera_syntax_tokens.specs.declared.token.Kind.TheVariants as k
 use Rattle.tera_syntax_tokens.specs.Token.{Token}
@@ -13,17 +13,11 @@ use Rattle.tera_syntax.specs.declared.heads.Surroundings.{Surroundings}
 
 -- what a text's first tag stands in: nothing
 abbrev pub outside : Surroundings
-outside = record { in_loop = false; may_leave = false; is_top = true; may_have_blocks = true }
+outside = record { in_loop = false; may_leave = false; may_have_blocks = true }
 
--- what stands in a statement that changes nothing else: no component is defined there
-abbrev pub nested : Surroundings → Surroundings
-nested q =
-    record {
-      in_loop = q.in_loop;
-      may_leave = q.may_leave;
-      is_top = false;
-      may_have_blocks = q.may_have_blocks;
-    }
+-- what the body of a component that is defined stands in: no loop, and no block may stand there
+abbrev pub in_component : Surroundings
+in_component = record { in_loop = false; may_leave = false; may_have_blocks = false }
 
 pub data Head : Type 0 where
   IfHead : (condition : Expr) → Head
@@ -33,7 +27,6 @@ pub data Head : Type 0 where
   -- with where its name stands
   BlockHead : (name : site.Name) (span : Span) → Head
   CallHead : (name : site.Name) (attributes : Entries) (span : Span) → Head
-  DefinitionHead : (signature : Signature) → Head
 
 -- the statement with this body, and what stands behind its `else`
 abbrev pub make : Head → Nodes → Nodes → Node
@@ -43,9 +36,8 @@ make (SetHead n fs is_global) body other = Capture n fs body is_global
 make (SectionHead fs) body other = FilterSection fs body
 make (BlockHead n span) body other = Block n body span
 make (CallHead n all span) body other = ComponentCall n all body span
-make (DefinitionHead s) body other = Definition s body
 
--- how deep the expressions, filters, attributes and defaults of its tag are
+-- how deep the expressions, filters and attributes of its tag are
 abbrev pub head_depth : Head → ℕ
 head_depth (IfHead c) = depth c
 head_depth (ForHead key n e) = depth e
@@ -53,7 +45,6 @@ head_depth (SetHead n fs is_global) = filters_depth fs
 head_depth (SectionHead fs) = filters_depth fs
 head_depth (BlockHead n span) = 0
 head_depth (CallHead n all span) = entries_depth all
-head_depth (DefinitionHead s) = parameters_depth s.parameters
 
 -- it may have an `else`
 abbrev pub splits : Head → Bool
@@ -67,35 +58,33 @@ chains (IfHead c) = true
 chains _ = false
 
 -- What its body stands in. A block's body keeps the names of a loop around it, and can't leave a
--- turn of that loop; the body that a component is handed can. The body of a component's definition
--- is in no loop, and has no blocks.
+-- turn of that loop; the body that a component is handed can.
 abbrev pub inside : Head → Surroundings → Surroundings
 inside (ForHead key n e) around =
-    record {
-      in_loop = true;
-      may_leave = true;
-      is_top = false;
-      may_have_blocks = around.may_have_blocks;
-    }
+    record { in_loop = true; may_leave = true; may_have_blocks = around.may_have_blocks }
 inside (BlockHead n span) around =
     record {
       in_loop = around.in_loop;
       may_leave = false;
-      is_top = false;
       may_have_blocks = around.may_have_blocks;
     }
-inside (DefinitionHead s) around =
-    record { in_loop = false; may_leave = false; is_top = false; may_have_blocks = false }
-inside _ around = nested around
+inside _ around = around
 
 -- the kind of a tag's first token
 abbrev pub first : List Token → Kind
 first tokens = kind (begin false tokens)
 
--- a tag that begins with the word `extends`
+-- a tag that begins with this word, which is not reserved
+abbrev pub is_begun_by : site.Text → List Token → Bool
+is_begun_by word tokens =
+    same k.Name (first tokens) && bytes_eq (text (begin false tokens)) word
+
 abbrev pub is_extends : List Token → Bool
-is_extends tokens =
-    same k.Name (first tokens) && bytes_eq (text (begin false tokens)) (codes "extends")
+is_extends tokens = is_begun_by (codes "extends") tokens
+
+-- a tag that defines a component
+abbrev pub is_component : List Token → Bool
+is_component tokens = is_begun_by (codes "component") tokens
 
 -- the tokens are this word, and behind it this name
 abbrev pub is_named : site.Text → site.Name → List Token → Bool
@@ -113,8 +102,8 @@ abbrev pub end_kind : Head → Kind
 end_kind (CallHead n all span) = k.Less
 end_kind _ = k.Name
 
--- The tokens are its end, by the first one's kind. Behind the word that ends a block or a component
--- its name may stand.
+-- The tokens are its end, by the first one's kind. Behind the word that ends a block its name may
+-- stand.
 abbrev pub is_end : Head → List Token → Bool
 is_end (IfHead c) tokens = is_alone (codes "endif") tokens
 is_end (ForHead key n e) tokens = is_alone (codes "endfor") tokens
@@ -124,9 +113,13 @@ is_end (SectionHead fs) tokens = is_alone (codes "endfilter") tokens
 is_end (BlockHead n span) tokens =
     is_alone (codes "endblock") tokens || is_named (codes "endblock") n tokens
 is_end (CallHead n all span) tokens = is_call_end n tokens
-is_end (DefinitionHead s) tokens =
-    is_alone (codes "endcomponent") tokens || is_named (codes "endcomponent") s.name tokens
 
 -- the tag ends a statement with this head
 abbrev pub ends : Head → List Token → Bool
 ends head tokens = same (end_kind head) (first tokens) && is_end head tokens
+
+-- The tag ends the definition of a component of this name, which may stand behind the word.
+abbrev pub ends_component : site.Name → List Token → Bool
+ends_component name tokens =
+    same k.Name (first tokens)
+    && (is_alone (codes "endcomponent") tokens || is_named (codes "endcomponent") name tokens)

@@ -3,6 +3,7 @@ pub mod Grammar
 pub mod Spells
 pub mod Reads
 pub mod Reader
+pub mod Parts
 pub mod File
 pub mod Names
 pub mod View

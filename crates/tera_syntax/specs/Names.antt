@@ -1,11 +1,10 @@
 -- The names of blocks and of components with where they stand, and what is refused where two of
 -- them are the same.
 use Rattle.std.specs.Prelude.{◌≡◌, ℕ, List, [], ◌∷◌, ◌++◌, Option, Some, None, Result, Ok, Err, map, option_map, bytes_eq, if◌then◌else◌}
-use Rattle.std.specs.Option.{option_or}
+use Rattle.std.specs.Option.{option_or, unwrap_or}
 use Rattle.tera_errors.specs.Site.{Name}
 use Rattle.tera_errors.specs.declared.span.Span.{Span}
-use Rattle.tera_syntax_tree.specs.Tree.{Tree, Node, Content, If, Capture, FilterSection, For, Block, ComponentCall, Definition, Nodes, NoNodes, MoreNodes}
-use Rattle.tera_syntax_tree.specs.Definitions.{node_definitions}
+use Rattle.tera_syntax_tree.specs.Tree.{Tree, Node, Content, If, Capture, FilterSection, For, Block, ComponentCall, Nodes, NoNodes, MoreNodes, Signature, Definitions}
 use Rattle.tera_syntax_tokens.specs.declared.refusal.Reason.{Reason}
 use Rattle.tera_syntax_tokens.specs.declared.refusal.Reason.TheVariants.{BlockTwice, ComponentTwice}
 use Rattle.tera_syntax_tokens.specs.declared.refusal.Refusal.{Refusal}
@@ -24,29 +23,33 @@ abbrev mutual
   node_blocks_at (Capture n fs body is_global) = blocks_at body
   node_blocks_at (FilterSection fs body) = blocks_at body
   node_blocks_at (ComponentCall n all body span) = blocks_at body
-  node_blocks_at (Definition s body) = blocks_at body
   node_blocks_at _ = []
 
   pub blocks_at : Nodes → List NameAt
   blocks_at NoNodes = []
   blocks_at (MoreNodes n rest) = node_blocks_at n ++ blocks_at rest
 
--- where a text ends; behind any other node the position is the one before it
-abbrev pub end_after : ℕ → Node → ℕ
-end_after at (Content text span) = span.end
-end_after at _ = at
+-- where a text begins
+abbrev pub text_start : Node → Option ℕ
+text_start (Content text span) = Some span.start
+text_start _ = None
 
--- the components that a node defines; they stand at this position, on no text
-abbrev pub node_components_at : ℕ → Node → List NameAt
-node_components_at at node =
-    map (λ d. (d.0.name, record { start = at; end = at })) (node_definitions node)
+-- where the first text of nodes begins, and where they have none, the start of all
+abbrev pub first_text : Nodes → ℕ
+first_text NoNodes = 0
+first_text (MoreNodes n rest) = unwrap_or (text_start n) (first_text rest)
 
--- the components that the nodes define, in the order of the text. Each stands where the last text
--- before it ends, and where there is none, at this position.
-abbrev pub components_at : ℕ → Nodes → List NameAt
-components_at at NoNodes = []
-components_at at (MoreNodes n rest) =
-    node_components_at at n ++ components_at (end_after at n) rest
+-- a name that stands at a position, on no text
+abbrev pub placed : Name → ℕ → NameAt
+placed name at = (name, record { start = at; end = at })
+
+-- a component stands where the first text of its body begins
+abbrev pub component_at : Signature × Nodes → NameAt
+component_at d = placed d.0.name (first_text d.1)
+
+-- the components, in the order of the text
+abbrev pub components_at : Definitions → List NameAt
+components_at = map component_at
 
 -- where this name stands first
 abbrev pub first_at : Name → List NameAt → Option Span
@@ -66,7 +69,7 @@ doubled why names = option_map (Syntax why) (again names)
 abbrev pub tree_doubled : Tree → Option Refusal
 tree_doubled tree =
     option_or (doubled BlockTwice (blocks_at tree.nodes))
-    (doubled ComponentTwice (components_at 0 tree.nodes))
+    (doubled ComponentTwice (components_at tree.definitions))
 
 -- This is refused, and where it is none, nothing is. Want of memory may always come.
 abbrev pub RefusesOnly : {X : Type 0} → Option Refusal → Result X Refusal → Type 0

@@ -16,7 +16,8 @@ use Rattle.tera_syntax_expressions.specs.Precedence as precedence
 use Rattle.tera_syntax_tokens.specs.Cut.{Piece, Words, Comment, Variable, Block, Broken, is_alone}
 use Rattle.tera_syntax_tree.specs.Tree.{Expr, Entries, Filters, NoFilters, Signature, Content, Print, Set, Include, Break, Continue, Node, Nodes, NoNodes, MoreNodes}
 use Rattle.tera_syntax.specs.declared.heads.Surroundings.{Surroundings}
-use Rattle.tera_syntax.specs.Heads.{Head, IfHead, ForHead, SetHead, SectionHead, BlockHead, CallHead, DefinitionHead, outside, nested, make, splits, chains, inside, first, ends}
+use Rattle.tera_syntax.specs.Heads.{Head, IfHead, ForHead, SetHead, SectionHead, BlockHead, CallHead, outside, make, splits, chains, inside, first, ends}
+use Rattle.tera_syntax.specs.Grammar.{join}
 
 -- what is taken of what was read, where the tag ends behind it
 abbrev pub ended : {A B : Type 0} → (A → B) → Parsed A → Option B
@@ -30,10 +31,6 @@ whole limit i = ended (λ d. d.expr) (expr limit precedence.choice i)
 -- filters that are all from here to the end of the tag, no deeper than this
 unfoldable pub pipe : ℕ → Input → Option Filters
 pipe limit i = ended (λ p. p.0) (filters limit i)
-
-abbrev pub join : Nodes → Nodes → Nodes
-join NoNodes more = more
-join (MoreNodes node rest) more = MoreNodes node (join rest more)
 
 abbrev pub one : Node → Nodes
 one node = MoreNodes node NoNodes
@@ -126,11 +123,6 @@ abbrev pub divided : (Head → Bool) → List OpenStatement → Nodes → Option
 divided may [] found = None
 divided may (f ∷ fs) found = if may f.head then divided_by f f.body fs found else None
 
--- what follows stands in the statement too
-abbrev pub aside : Progress → Progress
-aside s =
-    record { statements = s.statements; found = s.found; surroundings = nested s.surroundings }
-
 abbrev pub closed : List OpenStatement → Nodes → Option Progress
 closed [] found = None
 closed (f ∷ fs) found =
@@ -198,11 +190,6 @@ blocking q i = if q then block_at i else None
 unfoldable pub signed : ℕ → Input → Option Signature
 signed limit i = ended (λ s. s) (signature limit i)
 
--- behind `component`, where components may be defined
-abbrev pub defining : Bool → ℕ → Input → Option Tag
-defining q limit i =
-    if q then option_map (λ s. Opening (DefinitionHead s)) (signed limit i) else None
-
 abbrev pub call_ended : Name → ℕ → Parsed (Entries × ℕ) → Option Head
 call_ended name from None = None
 call_ended name from (Some p) =
@@ -245,7 +232,8 @@ alone word tokens tag = if is_alone word tokens then Some tag else None
 abbrev pub leaving : Bool → Text → List Token → Node → Option Tag
 leaving q word tokens node = if q then alone word tokens (Single node) else None
 
--- a tag that begins with this word, which is not reserved
+-- A tag that begins with this word, which is not reserved. Components are defined outside of all
+-- statements.
 unfoldable pub named : ℕ → Surroundings → List Token → Text → Option Tag
 named limit q tokens word =
     if bytes_eq word (codes "set") then setting limit false (next (begin q.in_loop tokens)) else (
@@ -254,8 +242,7 @@ named limit q tokens word =
     if bytes_eq word (codes "filter") then sectioning limit (next (begin q.in_loop tokens)) else (
     if bytes_eq word (codes "block") then blocking q.may_have_blocks (next (begin q.in_loop tokens))
     else (
-    if bytes_eq word (codes "component") then defining q.is_top limit (next (begin false tokens))
-    else (
+    if bytes_eq word (codes "component") then None else (
     if bytes_eq word (codes "include") then including (next (begin false tokens)) else (
     if bytes_eq word (codes "break") then leaving q.may_leave (codes "break") tokens Break else (
     if bytes_eq word (codes "continue") then leaving q.may_leave (codes "continue") tokens Continue
@@ -294,7 +281,7 @@ taken limit s tokens (Single node) = put limit s node
 taken limit s tokens (Opening head) = opened limit false s head
 taken limit s tokens (GoingOn head) =
     option_and_then (λ t. opened limit true t head) (divided chains s.statements s.found)
-taken limit s tokens Dividing = option_map aside (divided splits s.statements s.found)
+taken limit s tokens Dividing = divided splits s.statements s.found
 taken limit s tokens Closing = shut tokens s.statements s.found
 
 -- a statement, or a tag that belongs to one

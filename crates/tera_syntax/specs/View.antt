@@ -1,5 +1,5 @@
 -- What is open while a text is read, as plain data.
-use Rattle.std.specs.Prelude.{◌≡◌, List, ◌++◌, Option, Some, None, Result, Ok, Err, Vec, map, option_copied, reverse}
+use Rattle.std.specs.Prelude.{◌≡◌, List, ◌++◌, Option, Some, None, Result, Ok, Err, Vec, map, option_copied, option_map, reverse}
 use Rattle.std.specs.Global.{Global}
 use Rattle.tera_errors.specs.declared.span.Span.{Span}
 use Rattle.tera_syntax_tree.specs.declared.expression.ComponentTag.{ComponentTag, out-ComponentTag}
@@ -9,9 +9,10 @@ use Rattle.tera_syntax_tokens.specs.declared.refusal.Refusal.{Refusal}
 use Rattle.tera_syntax_tokens.specs.declared.refusal.Refusal.TheVariants.{OutOfMemory}
 use Rattle.tera_syntax_tokens.specs.Answers.{Refuses}
 use Rattle.tera_syntax_tree.specs.Tree.{Nodes}
-use Rattle.tera_syntax_tree.specs.View.{expr_of, entries_of, filters_of, signature_of, nodes_of, quoted_option}
-use Rattle.tera_syntax.specs.Heads.{Head, IfHead, ForHead, SetHead, SectionHead, BlockHead, CallHead, DefinitionHead}
+use Rattle.tera_syntax_tree.specs.View.{expr_of, entries_of, filters_of, signature_of, nodes_of, definitions_of, quoted_option}
+use Rattle.tera_syntax.specs.Heads.{Head, IfHead, ForHead, SetHead, SectionHead, BlockHead, CallHead}
 use Rattle.tera_syntax.specs.Reader.{OpenStatement, Progress}
+use Rattle.tera_syntax.specs.Parts.{OpenComponent, Parts}
 use Rattle.tera_syntax.specs.File.{File}
 use Rattle.tera_syntax.specs.Names.{NameAt}
 use Rattle.tera_syntax.specs.declared.blocks.PlacedName.{PlacedName}
@@ -20,6 +21,8 @@ use Rattle.tera_syntax.specs.declared.heads.Head as head
 use Rattle.tera_syntax.specs.declared.heads.Head.TheVariants as variant
 use Rattle.tera_syntax.specs.declared.progress.OpenStatement as statement
 use Rattle.tera_syntax.specs.declared.progress.Progress as progress
+use Rattle.tera_syntax.specs.declared.parts.OpenComponent as component
+use Rattle.tera_syntax.specs.declared.parts.Parts as parts
 
 abbrev pub heading_of : Heading → Head
 heading_of h = ForHead (option_copied h.key) h.name.now (expr_of h.target)
@@ -36,7 +39,6 @@ head_of (variant.Set c is_global) =
 head_of (variant.Section fs) = SectionHead (filters_of fs.items)
 head_of (variant.Block t span) = BlockHead t.now span
 head_of (variant.Call t span) = call_of t.value span
-head_of (variant.Definition s) = DefinitionHead (signature_of s.value)
 
 abbrev pub body_of : Option (Vec declared.Node Global) → Option Nodes
 body_of None = None
@@ -64,12 +66,24 @@ progress_of s =
       surroundings = s.surroundings;
     }
 
+abbrev pub component_of : component.OpenComponent → OpenComponent
+component_of c =
+    record { before = nodes_of c.before.items; signature = signature_of c.signature }
+
+abbrev pub parts_of : parts.Parts → Parts
+parts_of p =
+    record {
+      definitions = definitions_of p.definitions.items;
+      component = option_map component_of p.component;
+      progress = progress_of p.progress;
+    }
+
 abbrev pub file_of : file.File → File
 file_of f =
     record {
       parent = quoted_option f.parent;
       is_front = f.is_front;
-      progress = progress_of f.progress;
+      parts = parts_of f.parts;
     }
 
 abbrev pub names_of : List PlacedName → List NameAt
@@ -86,6 +100,11 @@ Gathers more old (Err refusal) new = refusal ≡ OutOfMemory
 abbrev pub Becomes : Option Progress → Result (Unit {0}) Refusal → progress.Progress → Type 0
 Becomes meant (Ok done) new = meant ≡ Some (progress_of new)
 Becomes meant (Err refusal) new = Refuses meant refusal
+
+-- the same of nodes and components
+abbrev pub PartsBecome : Option Parts → Result (Unit {0}) Refusal → parts.Parts → Type 0
+PartsBecome meant (Ok done) new = meant ≡ Some (parts_of new)
+PartsBecome meant (Err refusal) new = Refuses meant refusal
 
 -- the same of a whole text
 abbrev pub FileBecomes : Option File → Result (Unit {0}) Refusal → file.File → Type 0

@@ -1,18 +1,18 @@
 // The names of a tree's blocks and components.
-ghost use Rattle.std.specs.Prelude.{ℕ, ◌≡◌, ◌≤◌, IfOk, IfErr};
+ghost use Rattle.std.specs.Prelude.{ℕ, ◌≡◌, ◌≤◌, ◌∷◌, [], IfOk, IfErr};
 ghost use Rattle.tera_syntax.specs.File as spec;
-ghost use Rattle.tera_syntax.specs.Names.{again, blocks_at, components_at, doubled, end_after, node_blocks_at, node_components_at, RefusesOnly, tree_doubled};
+ghost use Rattle.tera_syntax.specs.Names.{again, blocks_at, components_at, doubled, first_text, node_blocks_at, placed, RefusesOnly, text_start, tree_doubled};
 ghost use Rattle.tera_syntax.specs.Positions.{NamesWithin, StayWithin};
 ghost use Rattle.tera_syntax.specs.View.{Gathers, names_of};
 ghost use Rattle.tera_syntax_tokens.specs.Prelude.{Answers, PointsWithin};
 ghost use Rattle.tera_syntax_tokens.specs.declared.refusal.Refusal.TheVariants.{OutOfMemory};
-ghost use Rattle.tera_syntax_tree.specs.Prelude.{Inside, NodeInside, NodesInside, node_of, nodes_of, tree_of};
+ghost use Rattle.tera_syntax_tree.specs.Prelude.{definitions_of, DefinitionsInside, Inside, NodeInside, NodesInside, node_of, nodes_of, tree_of};
 
 use std::alloc::Global;
 use std::collections::HashMap;
 use tera_errors::Span;
 use tera_syntax_tokens::refusal::{Reason, Refusal};
-use tera_syntax_tree::{Node, ParserOutput};
+use tera_syntax_tree::{DefinedComponent, Node, ParserOutput};
 
 /// The name of a block or a component, and where it stands.
 #[derive(Clone, Copy)]
@@ -47,62 +47,74 @@ fn gather_node<'s>(names: &mut Vec<PlacedName<'s>>, node: &Node<'s>) -> Result<(
             gather(names, body.as_slice())?;
             gather(names, other.as_slice())
         }
-        Node::Block { name, body, span } => {
-            names.push(PlacedName { name, span: *span })?;
-            gather(names, body.as_slice())
+        Node::Block(block) => {
+            names.push(PlacedName {
+                name: block.name,
+                span: block.span,
+            })?;
+            gather(names, block.body.as_slice())
         }
         Node::Capture { body, .. }
         | Node::FilterSection { body, .. }
-        | Node::ComponentCall { body, .. }
-        | Node::Definition { body, .. } => gather(names, body.as_slice()),
+        | Node::ComponentCall { body, .. } => gather(names, body.as_slice()),
         Node::Content { .. } | Node::Print { .. } | Node::PrintName { .. } => Ok(()),
         Node::Set { .. } | Node::Include { .. } | Node::Break | Node::Continue => Ok(()),
     }
 }
 
-/// Puts the names of all components that the nodes define behind those that are there. One stands
-/// behind the text before it.
-fn gather_components<'s>(names: &mut Vec<PlacedName<'s>>, nodes: &[Node<'s>]) -> Result<(), Refusal>
-    ensures gathered { let more = components_at 0 (nodes_of nodes.now) in
+/// Where a text begins.
+fn text_start(node: &Node<'_>) -> Option<usize>
+    ensures { result ≡ text_start (node_of node.now) }
+{
+    match node {
+        Node::Content { text: _, span } => Some(span.start),
+        _ => None,
+    }
+}
+
+/// Where the first text of nodes begins, and where they have none, the start of all.
+fn first_text(nodes: &[Node<'_>]) -> usize
+    ensures { result ≡ first_text (nodes_of nodes.now) }
+{
+    for node in nodes {
+        if let Some(start) = text_start(node) {
+            return start;
+        }
+    }
+    0
+}
+
+/// Puts the names of components behind those that are there. One stands where the first text of its body begins.
+fn gather_components<'s>(
+    names: &mut Vec<PlacedName<'s>>,
+    definitions: &[DefinedComponent<'s>],
+) -> Result<(), Refusal>
+    ensures gathered { let more = components_at (definitions_of definitions.now) in
         Gathers more names.old.items result names.new.items }
-    ensures points { StayWithin (λ size. NodesInside size (nodes_of nodes.now))
+    ensures points { StayWithin (λ size. DefinitionsInside size (definitions_of definitions.now))
         names.old.items result names.new.items }
 {
-    let mut at = 0;
-    for node in nodes {
-        gather_component(names, node, at)?;
-        at = end_of(node, at);
+    for definition in definitions {
+        let at = first_text(definition.body.as_slice());
+        gather_component(names, definition.signature.name, at)?;
     }
     Ok(())
 }
 
 fn gather_component<'s>(
     names: &mut Vec<PlacedName<'s>>,
-    node: &Node<'s>,
+    name: &'s str,
     at: usize,
 ) -> Result<(), Refusal>
-    ensures gathered { let more = node_components_at at (node_of node.now) in
+    ensures gathered { let more = placed name.now at ∷ [] in
         Gathers more names.old.items result names.new.items }
     ensures points { StayWithin (λ size. at ≤ size) names.old.items result names.new.items }
 {
-    if let Node::Definition { signature, body: _ } = node {
-        names.push(PlacedName {
-            name: signature.name,
-            span: Span { start: at, end: at },
-        })?;
-    }
+    names.push(PlacedName {
+        name,
+        span: Span { start: at, end: at },
+    })?;
     Ok(())
-}
-
-/// Where a text ends, and before any other node the position that is given.
-fn end_of(node: &Node<'_>, at: usize) -> usize
-    ensures value { result ≡ end_after at (node_of node.now) }
-    ensures points { (size : ℕ) → NodeInside size (node_of node.now) → at ≤ size → result ≤ size }
-{
-    match node {
-        Node::Content { text: _, span } => span.end,
-        _ => at,
-    }
 }
 
 /// Where the first name that stands again stands next, if one does. The names are read from behind,
@@ -145,7 +157,7 @@ pub(crate) fn once<'s>(alloc: Global, output: ParserOutput<'s>) -> Result<Parser
     gather(&mut blocks, output.nodes.as_slice())?;
     all_differ(alloc, blocks.as_slice(), Reason::BlockTwice)?;
     let mut components = Vec::new(alloc);
-    gather_components(&mut components, output.nodes.as_slice())?;
+    gather_components(&mut components, output.component_definitions.as_slice())?;
     all_differ(alloc, components.as_slice(), Reason::ComponentTwice)?;
     Ok(output)
 }

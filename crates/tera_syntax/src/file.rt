@@ -1,4 +1,4 @@
-// How far the reading of a whole text is: its nodes, and what it extends.
+// How far the reading of a whole text is: its nodes and components, and what it extends.
 ghost use Rattle.std.specs.Prelude.{ℕ, ◌≡◌, IfErr, List};
 ghost use Rattle.tera_syntax.specs.File as spec;
 ghost use Rattle.tera_syntax.specs.Grammar.{is_space};
@@ -11,9 +11,9 @@ ghost use Rattle.tera_syntax_tree.specs.Depth.{max_tree_depth};
 ghost use Rattle.tera_syntax_tree.specs.Prelude.{tree_of};
 
 use crate::heads::is_extends;
+use crate::parts::Parts;
 use crate::positions::PieceSpans;
-use crate::progress::Progress;
-use crate::statements::{behind, step};
+use crate::statements::behind;
 use crate::words::quoted_name;
 use std::alloc::Global;
 use tera_syntax_tokens::cut::Piece;
@@ -27,7 +27,7 @@ pub(crate) struct File<'s> {
     parent: Option<Quoted<'s>>,
     /// Whether white space and comments alone were read.
     is_front: bool,
-    progress: Progress<'s>,
+    parts: Parts<'s>,
 }
 
 fn is_extends_piece(piece: Piece<'_>, tokens: &[Token<'_>]) -> bool
@@ -65,7 +65,7 @@ impl<'s> File<'s> {
         File {
             parent: None,
             is_front: true,
-            progress: Progress::begin(alloc),
+            parts: Parts::begin(alloc),
         }
     }
 
@@ -84,7 +84,7 @@ impl<'s> File<'s> {
             → PieceInside size (piece_of tokens.now piece.entry)
             → IfErr result (PointsWithin size) }
     {
-        self.progress.tag = spans.whole.start;
+        self.parts.progress.tag = spans.whole.start;
         match self.take(alloc, piece, tokens) {
             Ok(()) => Ok(()),
             Err(Refusal::Syntax(why, span)) => {
@@ -106,14 +106,14 @@ impl<'s> File<'s> {
         }
     }
 
-    /// The tag `extends`. What was read in front of it is no node.
+    /// The tag `extends`.
     fn extend(&mut self, alloc: Global, tag: &[Token<'s>]) -> Result<(), Refusal>
-        ensures { FileBecomes (spec.extending (quoted_name (tokens_of tag.now))) result self.new }
+        ensures { let name = quoted_name (tokens_of tag.now) in
+            FileBecomes (spec.extending (file_of self.old) name) result self.new }
     {
         let mut ahead = behind(tag, false);
         self.parent = Some(quoted_name(alloc, &mut ahead)?);
         self.is_front = false;
-        self.progress = Progress::begin(alloc);
         Ok(())
     }
 
@@ -123,7 +123,7 @@ impl<'s> File<'s> {
             FileBecomes (spec.kept max_tree_depth (file_of self.old) meant) result self.new }
     {
         self.is_front = self.is_front && is_front_piece(piece);
-        step(&mut self.progress, alloc, piece, tokens)
+        self.parts.step(alloc, piece, tokens)
     }
 
     /// The tree, where the text ends here. It takes no memory.
@@ -131,13 +131,13 @@ impl<'s> File<'s> {
         ensures value { Answers tree_of (spec.file_finished (file_of self.entry)) result }
         ensures told { IfErr result IsSyntax }
     {
-        let File {
-            parent,
-            progress,
-            ..
-        } = self;
-        match progress.finish() {
-            Ok(nodes) => Ok(ParserOutput { parent, nodes }),
+        let File { parent, parts, .. } = self;
+        match parts.finish() {
+            Ok((nodes, component_definitions)) => Ok(ParserOutput {
+                parent,
+                nodes,
+                component_definitions,
+            }),
             Err(refusal) => Err(refusal),
         }
     }

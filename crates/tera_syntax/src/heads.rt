@@ -9,9 +9,7 @@ use tera_errors::Span;
 use tera_syntax_tokens::cut::is_alone;
 use tera_syntax_tokens::token::{Kind, Token};
 use tera_syntax_tokens::tokens::{Tokens, is_word};
-use tera_syntax_tree::{
-    Captured, ComponentTag, Expression, Heading, Node, SectionFilter, Signature,
-};
+use tera_syntax_tree::{Captured, ComponentTag, Expression, Heading, Node, SectionFilter};
 
 /// What a tag stands in.
 #[derive(Clone, Copy)]
@@ -20,8 +18,6 @@ pub(crate) struct Surroundings {
     pub in_loop: bool,
     /// Whether `break` and `continue` may stand here: inside a loop's body, with no block between.
     pub may_leave: bool,
-    /// Whether nothing is open: components are defined here alone.
-    pub is_top: bool,
     /// Whether a block may stand here, which is in no component.
     pub may_have_blocks: bool,
 }
@@ -34,20 +30,18 @@ impl Surroundings {
         Surroundings {
             in_loop: false,
             may_leave: false,
-            is_top: true,
             may_have_blocks: true,
         }
     }
 
-    /// What stands in a statement that changes nothing else: no component is defined there.
-    pub fn nested(self) -> Surroundings
-        ensures { result ≡ spec.nested self }
+    /// What the body of a component that is defined stands in.
+    pub fn in_component() -> Surroundings
+        ensures { result ≡ spec.in_component }
     {
         Surroundings {
-            in_loop: self.in_loop,
-            may_leave: self.may_leave,
-            is_top: false,
-            may_have_blocks: self.may_have_blocks,
+            in_loop: false,
+            may_leave: false,
+            may_have_blocks: false,
         }
     }
 }
@@ -67,8 +61,6 @@ pub(crate) enum Head<'s> {
     Block(&'s str, Span),
     /// `<name attributes>`, and from where to where it stands.
     Call(Box<ComponentTag<'s>>, Span),
-    /// `component signature`
-    Definition(Box<Signature<'s>>),
 }
 
 impl<'s> Head<'s> {
@@ -84,7 +76,6 @@ impl<'s> Head<'s> {
             Head::Section(filters) => Node::filter_section(filters, body),
             Head::Block(name, span) => Node::block(name, body, span),
             Head::Call(tag, span) => Node::component_call(tag, body, span),
-            Head::Definition(signature) => Node::definition(signature, body),
         }
     }
 
@@ -95,7 +86,7 @@ impl<'s> Head<'s> {
         match self {
             Head::If(_) | Head::For(_) => true,
             Head::Set(_, _) | Head::Section(_) | Head::Block(_, _) => false,
-            Head::Call(_, _) | Head::Definition(_) => false,
+            Head::Call(_, _) => false,
         }
     }
 
@@ -106,7 +97,7 @@ impl<'s> Head<'s> {
         match self {
             Head::If(_) => true,
             Head::For(_) | Head::Set(_, _) | Head::Section(_) | Head::Block(_, _) => false,
-            Head::Call(_, _) | Head::Definition(_) => false,
+            Head::Call(_, _) => false,
         }
     }
 
@@ -116,25 +107,16 @@ impl<'s> Head<'s> {
         ensures { result ≡ spec.inside (head_of self.now) around }
     {
         match self {
-            Head::If(_) | Head::Set(_, _) | Head::Section(_) => around.nested(),
-            Head::Call(_, _) => around.nested(),
+            Head::If(_) | Head::Set(_, _) | Head::Section(_) | Head::Call(_, _) => around,
             Head::For(_) => Surroundings {
                 in_loop: true,
                 may_leave: true,
-                is_top: false,
                 may_have_blocks: around.may_have_blocks,
             },
             Head::Block(_, _) => Surroundings {
                 in_loop: around.in_loop,
                 may_leave: false,
-                is_top: false,
                 may_have_blocks: around.may_have_blocks,
-            },
-            Head::Definition(_) => Surroundings {
-                in_loop: false,
-                may_leave: false,
-                is_top: false,
-                may_have_blocks: false,
             },
         }
     }
@@ -145,13 +127,13 @@ impl<'s> Head<'s> {
     {
         match self {
             Head::If(_) | Head::For(_) | Head::Set(_, _) | Head::Section(_) => Kind::Name,
-            Head::Block(_, _) | Head::Definition(_) => Kind::Name,
+            Head::Block(_, _) => Kind::Name,
             Head::Call(_, _) => Kind::Less,
         }
     }
 
-    /// Whether the tokens are its end, by the first one's kind. Behind the word that ends a block or
-    /// a component its name may stand.
+    /// Whether the tokens are its end, by the first one's kind. Behind the word that ends a block its
+    /// name may stand.
     fn is_end(&self, tokens: &[Token<'_>]) -> bool
         ensures { result ≡ spec.is_end (head_of self.now) (tokens_of tokens.now) }
     {
@@ -166,9 +148,6 @@ impl<'s> Head<'s> {
                 is_alone("endblock", tokens) || is_named("endblock", name, tokens)
             }
             Head::Call(tag, _) => is_call_end(tag.name, tokens),
-            Head::Definition(signature) => {
-                is_alone("endcomponent", tokens) || is_named("endcomponent", signature.name, tokens)
-            }
         }
     }
 
@@ -192,6 +171,21 @@ pub(crate) fn is_extends(tag: &[Token<'_>]) -> bool
     ensures { result ≡ spec.is_extends (tokens_of tag.now) }
 {
     first(tag) == Kind::Name && Tokens::begin(tag, false).text() == "extends"
+}
+
+/// Whether a tag defines a component.
+pub(crate) fn is_component(tag: &[Token<'_>]) -> bool
+    ensures { result ≡ spec.is_component (tokens_of tag.now) }
+{
+    first(tag) == Kind::Name && Tokens::begin(tag, false).text() == "component"
+}
+
+/// Whether the tag ends the definition of a component of this name, which may stand behind the word.
+pub(crate) fn ends_component(name: &str, tag: &[Token<'_>]) -> bool
+    ensures { result ≡ spec.ends_component name.now (tokens_of tag.now) }
+{
+    first(tag) == Kind::Name
+        && (is_alone("endcomponent", tag) || is_named("endcomponent", name, tag))
 }
 
 /// Whether the tokens are this word, and behind it this name.

@@ -6,6 +6,7 @@ mod components;
 mod file;
 mod heads;
 pub mod laws;
+mod parts;
 mod positions;
 mod progress;
 pub mod reader;
@@ -13,7 +14,9 @@ mod statements;
 mod words;
 
 pub use reader::parse;
+pub use tera_components::{ComponentArg, ComponentDefinition, ComponentInfo};
 pub use tera_syntax_tree::{
-    Argument, ArgumentType, BinaryOperator, Delimiters, Entry, Expression, Heading, Item, Literal,
-    LiteralEntry, LiteralKey, Node, Parameter, ParserOutput, SectionFilter, Signature,
+    Argument, ArgumentType, BinaryOperator, Block, DefinedComponent, Delimiters, Entry, Expression,
+    Heading, Item, Literal, LiteralEntry, LiteralKey, Node, Parameter, ParserOutput, SectionFilter,
+    Signature,
 };

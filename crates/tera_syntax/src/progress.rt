@@ -1,6 +1,7 @@
 // What is open while a text is read, and the nodes that were read.
-ghost use Rattle.std.specs.Prelude.{◌≡◌, ◌-◌, true, Some, IfErr, option_map};
+ghost use Rattle.std.specs.Prelude.{◌≡◌, ◌-◌, true, Some, IfErr};
 ghost use Rattle.tera_syntax.specs.Heads as heads;
+ghost use Rattle.tera_syntax.specs.Parts.{is_top, turned};
 ghost use Rattle.tera_syntax.specs.Reader as spec;
 ghost use Rattle.tera_syntax.specs.View.{Becomes, body_of, statement_of, head_of, progress_of};
 ghost use Rattle.tera_syntax_tokens.specs.Prelude.{Answers, IsSyntax, tokens_of};
@@ -17,7 +18,7 @@ use tera_syntax_tokens::tokens::Tokens;
 use tera_syntax_tree::Node;
 
 /// How deep a tree may be.
-const MAX_TREE_DEPTH: usize = 200;
+pub(crate) const MAX_TREE_DEPTH: usize = 200;
 
 /// A statement whose end is not read yet.
 #[derive(Drop)]
@@ -184,27 +185,11 @@ impl<'s> Progress<'s> {
     /// `else`: what was read is the body.
     pub fn split(&mut self, alloc: Global, tag: &[Token<'_>]) -> Result<(), Refusal>
         ensures { let s = progress_of self.old in
-            let meant = option_map spec.aside (spec.divided heads.splits s.statements s.found) in
-            Becomes meant result self.new }
+            Becomes (spec.divided heads.splits s.statements s.found) result self.new }
     {
         match self.statements.last() {
-            Some(statement) if statement.head.splits() => self.divide_aside(alloc, tag),
+            Some(statement) if statement.head.splits() => self.divide(alloc, tag),
             _ => Err(refused(tag, Reason::NotOpen)),
-        }
-    }
-
-    /// The same where it may have an `else`.
-    fn divide_aside(&mut self, alloc: Global, tag: &[Token<'_>]) -> Result<(), Refusal>
-        ensures { let s = progress_of self.old in
-            let meant = option_map spec.aside (spec.divided (λ head. true) s.statements s.found) in
-            Becomes meant result self.new }
-    {
-        match self.divide(alloc, tag) {
-            Ok(()) => {
-                self.surroundings = self.surroundings.nested();
-                Ok(())
-            }
-            Err(refusal) => Err(refusal),
         }
     }
 
@@ -263,6 +248,23 @@ impl<'s> Progress<'s> {
             }
         }
         Err(refused(tag, Reason::NotOpen))
+    }
+
+    /// Whether no statement is open.
+    pub fn is_top(&self) -> bool
+        ensures { result ≡ is_top (progress_of self.now) }
+    {
+        self.statements.is_empty()
+    }
+
+    /// Reads other nodes from here on, which stand in these surroundings, and hands out those that were read.
+    pub fn turn(&mut self, found: Vec<Node<'s>>, surroundings: Surroundings) -> Vec<Node<'s>>
+        ensures found { nodes_of result.items ≡ (progress_of self.old).found }
+        ensures rest { progress_of self.new
+            ≡ turned (progress_of self.old) (nodes_of found.entry.items) surroundings }
+    {
+        self.surroundings = surroundings;
+        replace(&mut self.found, found)
     }
 
     /// Where the first tag begins of the innermost statement that is open.

@@ -10,7 +10,6 @@ use crate::heads::Head;
 use crate::progress::{Progress, refused};
 use crate::statements::{behind, pipe, put, whole};
 use std::alloc::Global;
-use tera_syntax_expressions::parameters::signature;
 use tera_syntax_tokens::cut::is_alone;
 use tera_syntax_tokens::literal::literal;
 use tera_syntax_tokens::refusal::{Reason, Refusal};
@@ -90,27 +89,6 @@ fn block<'s>(progress: &mut Progress<'s>, alloc: Global, tag: &[Token<'s>]) -> R
         return Err(ahead.refuse(Reason::TagGoesOn));
     }
     progress.open(alloc, false, Head::Block(name, ahead.span(start)), tag)
-}
-
-/// A tag that begins with `component`.
-#[tactic(auto, unfolding(crate::specs::Reader::signed))]
-fn define<'s>(progress: &mut Progress<'s>, alloc: Global, tag: &[Token<'s>]) -> Result<(), Refusal>
-    ensures { let s = progress_of progress.old in
-        let tokens = tokens_of tag.now in
-        let behind = next (begin false tokens) in
-        let meant = spec.defining s.surroundings.is_top (spec.room max_tree_depth s) behind in
-        Becomes (option_and_then (spec.taken max_tree_depth s tokens) meant) result progress.new }
-{
-    if !progress.surroundings.is_top {
-        return Err(refused(tag, Reason::OutOfPlace));
-    }
-    let mut ahead = behind(tag, false);
-    let signature = signature(alloc, &mut ahead, progress.room())?;
-    if ahead.kind() != Kind::End {
-        return Err(ahead.refuse(Reason::TagGoesOn));
-    }
-    let signature = Box::new(alloc, signature)?;
-    progress.open(alloc, false, Head::Definition(signature), tag)
 }
 
 /// The name in quotes that ends a tag.
@@ -196,7 +174,7 @@ fn first_byte(text: &str) -> u8
     }
 }
 
-/// A tag that begins with this word.
+/// A tag that begins with this word. Components are defined outside of all statements.
 #[tactic(auto, unfolding(crate::specs::Reader::named))]
 pub(crate) fn named<'s>(
     progress: &mut Progress<'s>,
@@ -216,7 +194,7 @@ pub(crate) fn named<'s>(
         "set" | "set_global" => set(progress, alloc, tag, word != "set"),
         "filter" => section(progress, alloc, tag),
         "block" => block(progress, alloc, tag),
-        "component" => define(progress, alloc, tag),
+        "component" => Err(refused(tag, Reason::OutOfPlace)),
         "include" => include(progress, alloc, tag),
         "break" => leave(progress, tag, "break", Node::Break),
         "continue" => leave(progress, tag, "continue", Node::Continue),

@@ -1,7 +1,6 @@
 -- Views of what holds a Vec, by the Vec's items.
-use Rattle.std.proofs.Common.{◌≡◌, Vec, Box, Bool, Bor, Global, List, Option, None, Some, option_copied, refl, sym, ap, ap₂, ◌∙◌}
+use Rattle.std.proofs.Common.{◌≡◌, Vec, Box, Bool, Global, List, Option, None, Some, option_copied, refl, sym, ap, ap₂, ◌∙◌}
 use mathlib.Core.Former.{Count}
-use Rattle.tera_errors.specs.Site.{Text}
 use Rattle.tera_errors.specs.declared.span.Span.{Span}
 use Rattle.tera_syntax_tree.specs.declared.expression.Heading.{Heading}
 use Rattle.tera_syntax_tree.specs.declared.expression.Sliced.{Sliced}
@@ -18,14 +17,14 @@ use Rattle.tera_syntax_tree.specs.declared.component.Literal.{Row_of-Literal, en
 use Rattle.tera_syntax_tree.specs.declared.component.Literal as declared_literal
 use Rattle.tera_syntax_tree.specs.declared.component.Literal.TheVariants as written
 use Rattle.tera_syntax_tree.specs.declared.component.LiteralEntry.{LiteralEntry}
-use Rattle.tera_syntax_tree.specs.declared.component.Signature as signature
 use Rattle.tera_syntax_tree.specs.declared.node.Node.{Row_of-Node, end_of-Node, more_of-Node, items-the_row-Node, items_hidden-the_row-Node-0}
 use Rattle.tera_syntax_tree.specs.declared.node.Node as declared
+use Rattle.tera_syntax_tree.specs.declared.node.Block as block
 use Rattle.tera_syntax_tree.specs.declared.node.Captured.{Captured}
 use Rattle.tera_syntax_tree.specs.declared.node.SectionFilter.{SectionFilter}
 use Rattle.tera_syntax_tree.specs.declared.node.Node.TheVariants as variant
-use Rattle.tera_syntax_tree.specs.Tree.{Array, Map, Super, Filter, Test, Call, Component, ArrayLiteral, MapLiteral, MoreLiterals, MoreLiteralEntries, MoreItems, MoreEntries, MoreArguments, If, Capture, FilterSection, For, Block, ComponentCall, Definition, MoreNodes}
-use Rattle.tera_syntax_tree.specs.View.{literal_of, literal_option, expr_of, row_items, items_of, row_entries, entries_of, row_arguments, arguments_of, written_of, row_literals, literals_of, row_literal_entries, literal_entries_of, applied_of, called_of, tag_of, comprehension_of, slice_of, signature_of, filters_of, capture_of, component_call_of, node_of, row_nodes, nodes_of, for_of}
+use Rattle.tera_syntax_tree.specs.Tree.{Array, Map, Super, Filter, Test, Call, Component, ArrayLiteral, MapLiteral, MoreLiterals, MoreLiteralEntries, MoreItems, MoreEntries, MoreArguments, If, FilterSection, For, Block, MoreNodes}
+use Rattle.tera_syntax_tree.specs.View.{literal_of, literal_option, expr_of, row_items, items_of, row_entries, entries_of, row_arguments, arguments_of, written_of, row_literals, literals_of, row_literal_entries, literal_entries_of, applied_of, called_of, tag_of, comprehension_of, slice_of, filters_of, capture_of, component_call_of, node_of, row_nodes, nodes_of, for_of}
 
 pub items_row : (m : _) (row : Row_of-Item m) → row_items row ≡ items_of (items-the_row-Item m row)
 items_row m end_of-Item = refl
@@ -82,7 +81,6 @@ body_in (variant.FilterSection' _ _ row) = (_, row)
 body_in (variant.For' _ _ row _ _) = (_, row)
 body_in (variant.Block' _ _ row _) = (_, row)
 body_in (variant.ComponentCall' _ _ row _) = (_, row)
-body_in (variant.Definition' _ _ row) = (_, row)
 body_in _ = (_, end_of-Node)
 
 abbrev other_in : declared.Node → (n : Count) × Row_of-Node n
@@ -153,8 +151,8 @@ view_slice optional s span =
     by_bounds p al x (Some s) (Some e) None = refl
     by_bounds p al x (Some s) (Some e) (Some t) = refl
 
-pub view_block : (t : Bor Text) (body : Vec declared.Node Global) (span : Span) → node_of (variant.Block t body span) ≡ Block t.now (nodes_of body.items) span
-view_block t body span = ap (λ x. Block t.now x span) (nodes_is (body_in (variant.Block t body span)) body (items_hidden-the_row-Node-0 body))
+pub view_block : (b : block.Block) → node_of (variant.Block b) ≡ Block b.name.now (nodes_of b.body.items) b.span
+view_block b = ap (λ x. Block b.name.now x b.span) (nodes_is (body_in (variant.Block b)) b.body (items_hidden-the_row-Node-0 b.body))
 
 pub view_if : (c : Box Expression Global) (body other : Vec declared.Node Global) → node_of (variant.If c body other) ≡ If (expr_of c.value) (nodes_of body.items) (nodes_of other.items)
 view_if c body other =
@@ -173,9 +171,6 @@ view_for h body other =
 pub view_component_call : (t : Box ComponentTag Global) (body : Vec declared.Node Global) (span : Span) → node_of (variant.ComponentCall t body span) ≡ component_call_of t.value (nodes_of body.items) span
 view_component_call t body span =
     ap (λ x. component_call_of t.value x span) (nodes_is (body_in (variant.ComponentCall t body span)) body (items_hidden-the_row-Node-0 body))
-
-pub view_definition : (s : Box signature.Signature Global) (body : Vec declared.Node Global) → node_of (variant.Definition s body) ≡ Definition (signature_of s.value) (nodes_of body.items)
-view_definition s body = ap (λ x. Definition (signature_of s.value) x) (nodes_is (body_in (variant.Definition s body)) body (items_hidden-the_row-Node-0 body))
 
 pub view_array_literal : (all : Vec declared_literal.Literal Global) → written_of (written.Array all) ≡ ArrayLiteral (literals_of all.items)
 view_array_literal all =

@@ -1,5 +1,5 @@
 -- The blocks of a tree.
-use Rattle.std.specs.Prelude.{Bool, true, not, ◌&&◌, List, [], ◌∷◌, ◌++◌, map, bytes_eq}
+use Rattle.std.specs.Prelude.{Bool, true, not, ◌&&◌, List, [], ◌∷◌, map, bytes_eq}
 use Rattle.std.specs.List.{list_any}
 use Rattle.tera_errors.specs.Site as site
 use Rattle.tera_syntax_tree.specs.Tree.{Node, Nodes}

@@ -1,7 +1,7 @@
 -- What a tree calls.
 use Rattle.std.specs.Prelude.{List, [], ◌∷◌, ◌++◌}
 use Rattle.tera_errors.specs.Site as site
-use Rattle.tera_syntax_tree.specs.Tree.{Expr, Nothing, Boolean, Integer, Text, Name, Attribute, Index, Slice, Not, Negate, Binary, And, Or, Ternary, Array, Map, Comprehension, Super, Filter, Test, Call, Component, Optional, Absent, Present, Items, NoItems, MoreItems, Entries, NoEntries, MoreEntries, Arguments, NoArguments, MoreArguments, Filters, NoFilters, MoreFilters, Node, Content, Print, If, Set, Capture, FilterSection, For, Block, Include, ComponentCall, Definition, Break, Continue, Nodes, NoNodes, MoreNodes}
+use Rattle.tera_syntax_tree.specs.Tree.{Expr, Nothing, Boolean, Integer, Text, Name, Attribute, Index, Slice, Not, Negate, Binary, And, Or, Ternary, Array, Map, Comprehension, Super, Filter, Test, Call, Component, Optional, Absent, Present, Items, NoItems, MoreItems, Entries, NoEntries, MoreEntries, Arguments, NoArguments, MoreArguments, Filters, NoFilters, MoreFilters, Node, Content, Print, If, Set, Capture, FilterSection, For, Block, Include, ComponentCall, Break, Continue, Nodes, NoNodes, MoreNodes}
 
 -- a name that is called as a filter, a test, a function or a component
 pub data Callee : Type 0 where
@@ -58,7 +58,7 @@ filters_calls NoFilters = []
 filters_calls (MoreFilters n all span rest) =
     (arguments_calls all ++ AFilter n ∷ []) ++ filters_calls rest
 
--- what a block or a component calls is no part of what the nodes around it call
+-- what a block calls is no part of what the nodes around it call
 abbrev mutual
   pub node_calls : Node → List Callee
   node_calls (Content t span) = []
@@ -72,7 +72,6 @@ abbrev mutual
   node_calls (Include n span) = []
   node_calls (ComponentCall n all body span) =
       calls body ++ (entries_calls all ++ AComponent n ∷ [])
-  node_calls (Definition s body) = []
   node_calls Break = []
   node_calls Continue = []
 

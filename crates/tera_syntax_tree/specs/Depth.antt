@@ -1,9 +1,9 @@
 -- How deep trees are.
-use Rattle.std.specs.Prelude.{ℕ, suc, max, ◌≤◌, false, IsTrue, List, [], ◌∷◌, Option, Some, None}
-use Rattle.tera_syntax_tree.specs.Tree.{Expr, Nothing, Boolean, Integer, Text, Name, Attribute, Index, Slice, Not, Negate, Binary, And, Or, Ternary, Array, Map, Comprehension, Super, Filter, Test, Call, Component, Optional, Absent, Present, Items, NoItems, MoreItems, Entries, NoEntries, MoreEntries, Arguments, NoArguments, MoreArguments, Literal, NothingLiteral, BooleanLiteral, IntegerLiteral, TextLiteral, ArrayLiteral, MapLiteral, Literals, NoLiterals, MoreLiterals, LiteralEntries, NoLiteralEntries, MoreLiteralEntries, Parameter, Filters, NoFilters, MoreFilters, Node, Content, Print, If, Set, Capture, FilterSection, For, Block, Include, ComponentCall, Definition, Break, Continue, Nodes, NoNodes, MoreNodes, Tree}
-use Rattle.tera_syntax_tree.specs.Leaving.{in_place}
+use Rattle.std.specs.Prelude.{ℕ, suc, max, ◌≤◌, IsTrue, List, [], ◌∷◌, Option, Some, None}
+use Rattle.tera_syntax_tree.specs.Tree.{Expr, Nothing, Boolean, Integer, Text, Name, Attribute, Index, Slice, Not, Negate, Binary, And, Or, Ternary, Array, Map, Comprehension, Super, Filter, Test, Call, Component, Optional, Absent, Present, Items, NoItems, MoreItems, Entries, NoEntries, MoreEntries, Arguments, NoArguments, MoreArguments, Literal, NothingLiteral, BooleanLiteral, IntegerLiteral, TextLiteral, ArrayLiteral, MapLiteral, Literals, NoLiterals, MoreLiterals, LiteralEntries, NoLiteralEntries, MoreLiteralEntries, Parameter, Filters, NoFilters, MoreFilters, Node, Content, Print, If, Set, Capture, FilterSection, For, Block, Include, ComponentCall, Break, Continue, Nodes, NoNodes, MoreNodes, Signature, Definitions, Tree}
+use Rattle.tera_syntax_tree.specs.Leaving.{tree_in_place}
 use Rattle.tera_syntax_tree.specs.Blocks.{has_each_block_once}
-use Rattle.tera_syntax_tree.specs.Definitions.{defines_at_top, has_each_component_once}
+use Rattle.tera_syntax_tree.specs.Definitions.{has_blocks_outside, has_each_component_once}
 
 -- a leaf has depth 1, and anything else one more than its deepest part
 abbrev mutual
@@ -92,13 +92,24 @@ abbrev mutual
   node_depth (Block n body span) = suc (nodes_depth body)
   node_depth (Include n span) = 1
   node_depth (ComponentCall n all body span) = suc (max (entries_depth all) (nodes_depth body))
-  node_depth (Definition s body) = suc (max (parameters_depth s.parameters) (nodes_depth body))
   node_depth Break = 1
   node_depth Continue = 1
 
   pub nodes_depth : Nodes → ℕ
   nodes_depth NoNodes = 0
   nodes_depth (MoreNodes n rest) = max (node_depth n) (nodes_depth rest)
+
+-- a component is no level itself
+abbrev pub definition_depth : Signature × Nodes → ℕ
+definition_depth d = max (parameters_depth d.0.parameters) (nodes_depth d.1)
+
+abbrev pub definitions_depth : Definitions → ℕ
+definitions_depth [] = 0
+definitions_depth (d ∷ ds) = max (definition_depth d) (definitions_depth ds)
+
+-- how deep the nodes of a tree are, and its components
+abbrev pub tree_depth : Tree → ℕ
+tree_depth t = max (nodes_depth t.nodes) (definitions_depth t.definitions)
 
 -- how deep a tree may be
 abbrev pub max_tree_depth : ℕ
@@ -108,6 +119,6 @@ max_tree_depth = 200
 -- two components of one name
 abbrev pub IsWellFormed : Tree → Type 0
 IsWellFormed t =
-    (nodes_depth t.nodes ≤ max_tree_depth) × IsTrue (in_place false t.nodes)
+    (tree_depth t ≤ max_tree_depth) × IsTrue (tree_in_place t)
     × IsTrue (has_each_block_once t.nodes)
-    × IsTrue (defines_at_top t.nodes) × IsTrue (has_each_component_once t.nodes)
+    × IsTrue (has_blocks_outside t) × IsTrue (has_each_component_once t)

@@ -1,7 +1,7 @@
 -- What is gathered from a tree.
 use Rattle.std.specs.Prelude.{List, [], ◌++◌}
 use Rattle.tera_errors.specs.Site as site
-use Rattle.tera_syntax_tree.specs.Tree.{Node, Content, Print, If, Set, Capture, FilterSection, For, Block, Include, ComponentCall, Definition, Break, Continue, Nodes, NoNodes, MoreNodes}
+use Rattle.tera_syntax_tree.specs.Tree.{Node, Content, Print, If, Set, Capture, FilterSection, For, Block, Include, ComponentCall, Break, Continue, Nodes, NoNodes, MoreNodes}
 
 -- In the order of the text. The first function tells what a block gives, by its name, its body and
 -- what that gives, the second what an include gives. Any other node gives what those inside it do.
@@ -20,7 +20,6 @@ abbrev mutual
   node_gathered block include (Block n body span) = block n body (gathered block include body)
   node_gathered block include (Include n span) = include n
   node_gathered block include (ComponentCall n all body span) = gathered block include body
-  node_gathered block include (Definition s body) = gathered block include body
   node_gathered block include Break = []
   node_gathered block include Continue = []
 

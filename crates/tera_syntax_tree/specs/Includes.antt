@@ -1,12 +1,20 @@
 -- What a tree includes.
-use Rattle.std.specs.Prelude.{List, [], ◌∷◌}
+use Rattle.std.specs.Prelude.{List, [], ◌∷◌, ◌++◌, flat_map}
 use Rattle.tera_errors.specs.Site as site
-use Rattle.tera_syntax_tree.specs.Tree.{Node, Nodes}
+use Rattle.tera_syntax_tree.specs.Tree.{Node, Nodes, Definitions, Tree}
 use Rattle.tera_syntax_tree.specs.Gathered.{gathered, node_gathered}
 
--- the names that are included, in the order of the text; those in blocks and components too
+-- the names that are included, in the order of the text; those in blocks too
 abbrev pub node_includes : Node → List site.Name
 node_includes = node_gathered (λ name body inside. inside) (λ name. name ∷ [])
 
 abbrev pub includes : Nodes → List site.Name
 includes = gathered (λ name body inside. inside) (λ name. name ∷ [])
+
+-- the names that the bodies of components include
+abbrev pub definitions_include : Definitions → List site.Name
+definitions_include definitions = flat_map (λ d. includes d.1) definitions
+
+-- those of the nodes, and then those of the components
+abbrev pub tree_includes : Tree → List site.Name
+tree_includes t = includes t.nodes ++ definitions_include t.definitions

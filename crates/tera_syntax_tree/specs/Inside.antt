@@ -1,7 +1,7 @@
 -- Trees of which every span is a stretch of the text.
-use Rattle.std.specs.Prelude.{ℕ, ◌≤◌}
+use Rattle.std.specs.Prelude.{ℕ, ◌≤◌, [], ◌∷◌}
 use Rattle.tera_errors.specs.declared.span.Span.{Span}
-use Rattle.tera_syntax_tree.specs.Tree.{Expr, Nothing, Boolean, Integer, Text, Name, Attribute, Index, Slice, Not, Negate, Binary, And, Or, Ternary, Array, Map, Comprehension, Super, Filter, Test, Call, Component, Optional, Absent, Present, Items, NoItems, MoreItems, Entries, NoEntries, MoreEntries, Arguments, NoArguments, MoreArguments, Filters, NoFilters, MoreFilters, Node, Content, Print, If, Set, Capture, FilterSection, For, Block, Include, ComponentCall, Definition, Break, Continue, Nodes, NoNodes, MoreNodes, Tree}
+use Rattle.tera_syntax_tree.specs.Tree.{Expr, Nothing, Boolean, Integer, Text, Name, Attribute, Index, Slice, Not, Negate, Binary, And, Or, Ternary, Array, Map, Comprehension, Super, Filter, Test, Call, Component, Optional, Absent, Present, Items, NoItems, MoreItems, Entries, NoEntries, MoreEntries, Arguments, NoArguments, MoreArguments, Filters, NoFilters, MoreFilters, Node, Content, Print, If, Set, Capture, FilterSection, For, Block, Include, ComponentCall, Break, Continue, Nodes, NoNodes, MoreNodes, Definitions, Tree}
 
 -- a stretch of a text of this size
 abbrev pub Within : ℕ → Span → Type 0
@@ -75,7 +75,6 @@ abbrev mutual
   NodeInside size (Include n span) = Within size span
   NodeInside size (ComponentCall n all body span) =
       EntriesInside size all × NodesInside size body × Within size span
-  NodeInside size (Definition s body) = NodesInside size body
   NodeInside size Break = Unit {0}
   NodeInside size Continue = Unit {0}
 
@@ -83,6 +82,10 @@ abbrev mutual
   NodesInside size NoNodes = Unit {0}
   NodesInside size (MoreNodes n rest) = NodeInside size n × NodesInside size rest
 
+abbrev pub DefinitionsInside : ℕ → Definitions → Type 0
+DefinitionsInside size [] = Unit {0}
+DefinitionsInside size (d ∷ ds) = NodesInside size d.1 × DefinitionsInside size ds
+
 -- all spans of the tree are stretches of a text of this size
 abbrev pub Inside : ℕ → Tree → Type 0
-Inside size t = NodesInside size t.nodes
+Inside size t = NodesInside size t.nodes × DefinitionsInside size t.definitions

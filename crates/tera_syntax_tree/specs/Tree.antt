@@ -115,8 +115,6 @@ mutual
     Include : (name : site.Name) (span : Span) → Node
     -- a component that is handed what its body puts out
     ComponentCall : (name : site.Name) (attributes : Entries) (body : Nodes) (span : Span) → Node
-    -- a component, which puts out nothing where it is defined
-    Definition : (signature : Signature) (body : Nodes) → Node
     Break : Node
     Continue : Node
 
@@ -124,7 +122,13 @@ mutual
     NoNodes : Nodes
     MoreNodes : (node : Node) (rest : Nodes) → Nodes
 
--- the name of the template that the text extends, if it does, and the nodes of the text
+-- components, each with its body
+abbrev pub Definitions : Type 0
+Definitions = List (Signature × Nodes)
+
+-- the name of the template that the text extends, if it does, the nodes of the text, and the
+-- components that it defines, which are none of the nodes; these and those in the order of the text
 pub record Tree : Type 0 where
   pub parent : Option site.Name
   pub nodes : Nodes
+  pub definitions : Definitions

@@ -32,7 +32,8 @@ use Rattle.tera_syntax_tree.specs.declared.node.Node.{Row_of-Node, end_of-Node, 
 use Rattle.tera_syntax_tree.specs.declared.node.Node as declared
 use Rattle.tera_syntax_tree.specs.declared.node.Node.TheVariants as variant
 use Rattle.tera_syntax_tree.specs.declared.node.ParserOutput.{ParserOutput}
-use Rattle.tera_syntax_tree.specs.Tree.{Key, BoolKey, IntKey, TextKey, Expr, Nothing, Boolean, Integer, Text, Name, Attribute, Index, Slice, Not, Negate, Binary, And, Or, Ternary, Array, Map, Comprehension, Super, Filter, Test, Call, Component, Optional, Absent, Present, Items, NoItems, MoreItems, Entries, NoEntries, MoreEntries, Arguments, NoArguments, MoreArguments, Literal, NothingLiteral, BooleanLiteral, IntegerLiteral, TextLiteral, ArrayLiteral, MapLiteral, Literals, NoLiterals, MoreLiterals, LiteralEntries, NoLiteralEntries, MoreLiteralEntries, Parameter, Signature, Filters, NoFilters, MoreFilters, Node, Content, Print, If, Set, Capture, FilterSection, For, Block, Include, ComponentCall, Definition, Break, Continue, Nodes, NoNodes, MoreNodes, Tree}
+use Rattle.tera_syntax_tree.specs.declared.node.DefinedComponent.{DefinedComponent}
+use Rattle.tera_syntax_tree.specs.Tree.{Key, BoolKey, IntKey, TextKey, Expr, Nothing, Boolean, Integer, Text, Name, Attribute, Index, Slice, Not, Negate, Binary, And, Or, Ternary, Array, Map, Comprehension, Super, Filter, Test, Call, Component, Optional, Absent, Present, Items, NoItems, MoreItems, Entries, NoEntries, MoreEntries, Arguments, NoArguments, MoreArguments, Literal, NothingLiteral, BooleanLiteral, IntegerLiteral, TextLiteral, ArrayLiteral, MapLiteral, Literals, NoLiterals, MoreLiterals, LiteralEntries, NoLiteralEntries, MoreLiteralEntries, Parameter, Signature, Filters, NoFilters, MoreFilters, Node, Content, Print, If, Set, Capture, FilterSection, For, Block, Include, ComponentCall, Break, Continue, Nodes, NoNodes, MoreNodes, Definitions, Tree}
 
 abbrev pub quoted_of : Quoted → site.Text
 quoted_of (quoted.Lent t) = t.now
@@ -227,7 +228,6 @@ abbrev mutual
   node_of (variant.Block' t m body span) = Block t.now (row_nodes body) span
   node_of (variant.Include t span) = Include (quoted_of t) span
   node_of (variant.ComponentCall' c m body span) = component_call_of c.value (row_nodes body) span
-  node_of (variant.Definition' s m body) = Definition (signature_of s.value) (row_nodes body)
   node_of variant.Break = Break
   node_of variant.Continue = Continue
 
@@ -244,6 +244,16 @@ abbrev pub for_of : Heading → List declared.Node → List declared.Node → No
 for_of h body other =
     For (option_copied h.key) h.name.now (expr_of h.target) (nodes_of body) (nodes_of other)
 
+abbrev pub defined_of : DefinedComponent → Signature × Nodes
+defined_of d = (signature_of d.signature, nodes_of d.body.items)
+
+abbrev pub definitions_of : List DefinedComponent → Definitions
+definitions_of = map_list defined_of
+
 abbrev pub tree_of : ParserOutput → Tree
 tree_of output =
-    record { parent = quoted_option output.parent; nodes = nodes_of output.nodes.items }
+    record {
+      parent = quoted_option output.parent;
+      nodes = nodes_of output.nodes.items;
+      definitions = definitions_of output.component_definitions.items;
+    }

@@ -1,14 +1,15 @@
 // Trees from their parts.
 ghost use Rattle.std.specs.Prelude.{◌≡◌, IfOk};
-ghost use Rattle.tera_syntax_tree.specs.Tree.{Attribute, Index, Not, Negate, Binary, And, Or, Ternary, Array, Map, Super, Filter, Test, Call, Component, ArrayLiteral, MapLiteral, If, Set, FilterSection, Block, Definition};
-ghost use Rattle.tera_syntax_tree.specs.View.{applied_of, called_of, tag_of, expr_of, slice_of, comprehension_of, items_of, entries_of, arguments_of, written_of, literals_of, literal_entries_of, signature_of, filters_of, capture_of, component_call_of, node_of, nodes_of, for_of};
+ghost use Rattle.tera_syntax_tree.specs.Tree.{Attribute, Index, Not, Negate, Binary, And, Or, Ternary, Array, Map, Super, Filter, Test, Call, Component, ArrayLiteral, MapLiteral, If, Set, FilterSection};
+ghost use Rattle.tera_syntax_tree.specs.Tree as tree;
+ghost use Rattle.tera_syntax_tree.specs.View.{applied_of, called_of, tag_of, expr_of, slice_of, comprehension_of, items_of, entries_of, arguments_of, written_of, literals_of, literal_entries_of, filters_of, capture_of, component_call_of, node_of, nodes_of, for_of};
 
-use crate::component::{Literal, LiteralEntry, Signature};
+use crate::component::{Literal, LiteralEntry};
 use crate::expression::{
     Applied, Argument, BinaryOperator, Called, Choice, Collected, ComponentTag, Entry, Expression,
     Heading, Indexed, Item, Operands, Sliced,
 };
-use crate::node::{Captured, Node, SectionFilter};
+use crate::node::{Block, Captured, Node, SectionFilter};
 use std::alloc::{AllocError, Global};
 use tera_errors::Span;
 
@@ -226,9 +227,9 @@ impl<'s> Node<'s> {
 
     /// `{% block name %}body{% endblock %}`
     pub fn block(name: &'s str, body: Vec<Node<'s>>, span: Span) -> Self
-        ensures { node_of result ≡ Block name.now (nodes_of body.entry.items) span }
+        ensures { node_of result ≡ tree.Block name.now (nodes_of body.entry.items) span }
     {
-        Node::Block { name, body, span }
+        Node::Block(Block { name, body, span })
     }
 
     /// `{% <name attributes> %}body{% </name> %}`
@@ -237,14 +238,6 @@ impl<'s> Node<'s> {
             ≡ component_call_of tag.entry.value (nodes_of body.entry.items) span }
     {
         Node::ComponentCall { tag, body, span }
-    }
-
-    /// `{% component signature %}body{% endcomponent %}`
-    pub fn definition(signature: Box<Signature<'s>>, body: Vec<Node<'s>>) -> Self
-        ensures { node_of result ≡ Definition (signature_of signature.entry.value)
-            (nodes_of body.entry.items) }
-    {
-        Node::Definition { signature, body }
     }
 
     /// `{% for heading %}body{% else %}other{% endfor %}`

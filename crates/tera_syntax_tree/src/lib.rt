@@ -14,5 +14,5 @@ pub use expression::{
     Applied, Argument, BinaryOperator, Bounds, Called, Choice, Collected, ComponentTag, Entry,
     Expression, Heading, Indexed, Item, LiteralKey, Operands, OwnedKey, Sliced,
 };
-pub use node::{Captured, Node, ParserOutput, SectionFilter};
+pub use node::{Block, Captured, DefinedComponent, Node, ParserOutput, SectionFilter};
 pub use quoted::Quoted;

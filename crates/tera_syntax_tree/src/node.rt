@@ -6,6 +6,7 @@ use tera_errors::Span;
 
 /// A node of a template: a piece of its text, or a tag with what belongs to it. It takes 64 bytes: what stands beside a body has
 /// a box of its own where it is larger than a name.
+#[cycle(node)]
 pub enum Node<'s> {
     /// Text that is written as it stands. The span is what it covers.
     Content {
@@ -50,12 +51,8 @@ pub enum Node<'s> {
         body: Vec<Node<'s>>,
         other: Vec<Node<'s>>,
     },
-    /// `{% block name %}body{% endblock %}`. The span is that of the name.
-    Block {
-        name: &'s str,
-        body: Vec<Node<'s>>,
-        span: Span,
-    },
+    /// `{% block name %}body{% endblock %}`
+    Block(Block<'s>),
     /// `{% include "name" %}`. The span is that of the name with its quotes.
     Include {
         name: Quoted<'s>,
@@ -66,11 +63,6 @@ pub enum Node<'s> {
         tag: Box<ComponentTag<'s>>,
         body: Vec<Node<'s>>,
         span: Span,
-    },
-    /// `{% component signature %}body{% endcomponent %}`. It writes nothing where it stands.
-    Definition {
-        signature: Box<Signature<'s>>,
-        body: Vec<Node<'s>>,
     },
     /// `{% break %}`
     Break,
@@ -111,25 +103,26 @@ impl<'s> Drop for Node<'s> {
                 body: _,
                 other: _,
             } => {}
-            Node::Block {
-                name: _,
-                body: _,
-                span: _,
-            } => {}
+            Node::Block(_) => {}
             Node::Include { name: _, span: _ } => {}
             Node::ComponentCall {
                 tag: _,
                 body: _,
                 span: _,
             } => {}
-            Node::Definition {
-                signature: _,
-                body: _,
-            } => {}
             Node::Break => {}
             Node::Continue => {}
         }
     }
+}
+
+/// A block: a part of a template that another which extends it may put its own in place of. The span is that of its name.
+#[derive(Drop)]
+#[cycle(node)]
+pub struct Block<'s> {
+    pub name: &'s str,
+    pub body: Vec<Node<'s>>,
+    pub span: Span,
 }
 
 /// What a body is captured for: the name, and the filters that its text goes through.
@@ -152,12 +145,27 @@ pub struct ParserOutput<'s> {
     /// The name of the template that the text extends, if it does.
     pub parent: Option<Quoted<'s>>,
     pub nodes: Vec<Node<'s>>,
+    /// The components that it defines. They are none of the nodes.
+    pub component_definitions: Vec<DefinedComponent<'s>>,
 }
 
+// By hand, so that an output that goes out of scope is one call.
 impl<'s> Drop for ParserOutput<'s> {
     fn drop(self) {
-        let ParserOutput { parent, nodes } = self;
+        let ParserOutput {
+            parent,
+            nodes,
+            component_definitions,
+        } = self;
         drop(parent);
         drop(nodes);
+        drop(component_definitions);
     }
+}
+
+/// `{% component signature %}body{% endcomponent %}`
+#[derive(Drop)]
+pub struct DefinedComponent<'s> {
+    pub signature: Signature<'s>,
+    pub body: Vec<Node<'s>>,
 }

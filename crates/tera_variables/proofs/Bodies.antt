@@ -1,8 +1,9 @@
 -- Nodes with bodies, as they are seen where the bodies are lent.
-use Rattle.std.proofs.Common.{◌≡◌, ◌⊎◌, inl, inr, Bool, true, Bor, List, ℕ, Vec, Box, Global, sym, ap, ap₂, ◌∙◌}
+use Rattle.std.proofs.Common.{◌≡◌, ◌⊎◌, inl, inr, Bool, true, List, Vec, Box, Global, sym, ap, ap₂, ◌∙◌}
 use Rattle.tera_errors.specs.declared.span.Span.{Span}
 use Rattle.tera_syntax_tree.specs.declared.expression.Heading.{Heading}
 use Rattle.tera_syntax_tree.specs.declared.expression.Expression.{Expression}
+use Rattle.tera_syntax_tree.specs.declared.node.Block as block
 use Rattle.tera_syntax_tree.specs.declared.node.Node as declared
 use Rattle.tera_syntax_tree.specs.declared.node.SectionFilter.{SectionFilter}
 use Rattle.tera_syntax_tree.specs.declared.node.Node.TheVariants as variant
@@ -29,9 +30,9 @@ pub node_section : (node : declared.Node) (fs : Vec SectionFilter Global) (body 
 node_section node fs body xs is a =
     ap node_of is ∙ view_section fs body ∙ ap (λ x. FilterSection (filters_of fs.items) (nodes_of x)) (sym a)
 
-pub node_block : (node : declared.Node) (name : Bor (List ℕ)) (body : Vec declared.Node Global) (span : Span) (xs : List declared.Node) → node ≡ variant.Block name body span → xs ≡ body.items → node_of node ≡ Block name.now (nodes_of xs) span
-node_block node name body span xs is a =
-    ap node_of is ∙ view_block name body span ∙ ap (λ x. Block name.now (nodes_of x) span) (sym a)
+pub node_block : (node : declared.Node) (b : block.Block) (xs : List declared.Node) → node ≡ variant.Block b → xs ≡ b.body.items → node_of node ≡ Block b.name.now (nodes_of xs) b.span
+node_block node b xs is a =
+    ap node_of is ∙ view_block b ∙ ap (λ x. Block b.name.now (nodes_of x) b.span) (sym a)
 
 pub node_call : (node : declared.Node) (tag : Box ComponentTag Global) (body : Vec declared.Node Global) (span : Span) (xs : List declared.Node) → node ≡ variant.ComponentCall tag body span → xs ≡ body.items → node_of node ≡ component_call_of tag.value (nodes_of xs) span
 node_call node tag body span xs is a =
@@ -39,10 +40,9 @@ node_call node tag body span xs is a =
 
 -- a node with one body binds behind a loop what that does
 pub binds_of_body : (node : declared.Node) (body : Vec declared.Node Global) (xs : List declared.Node)
-    → ((x : Vec SectionFilter Global) × (node ≡ variant.FilterSection x body)) ⊎ (((x : Bor (List ℕ)) × (y : Span) × (node ≡ variant.Block x body y)) ⊎ ((x : Box ComponentTag Global) × (y : Span) × (node ≡ variant.ComponentCall x body y))) → xs ≡ body.items → node_binds true (node_of node) ≡ binds true (nodes_of xs)
+    → ((x : Vec SectionFilter Global) × (node ≡ variant.FilterSection x body)) ⊎ ((x : Box ComponentTag Global) × (y : Span) × (node ≡ variant.ComponentCall x body y)) → xs ≡ body.items → node_binds true (node_of node) ≡ binds true (nodes_of xs)
 binds_of_body node body xs (inl p) a = ap (node_binds true) (node_section node p.0 body xs p.1 a)
-binds_of_body node body xs (inr (inl p)) a = ap (node_binds true) (node_block node p.0 body p.1 xs p.2 a)
-binds_of_body node body xs (inr (inr p)) a = ap (node_binds true) (node_call node p.0 body p.1 xs p.2 a)
+binds_of_body node body xs (inr p) a = ap (node_binds true) (node_call node p.0 body p.1 xs p.2 a)
 
 -- or what both of its bodies do
 pub binds_of_both : (node : declared.Node) (body other : Vec declared.Node Global) (xs ys : List declared.Node) → ((x : Box Expression Global) × (node ≡ variant.If x body other)) ⊎ ((x : Box Heading Global) × (node ≡ variant.For x body other)) → xs ≡ body.items → ys ≡ other.items → node_binds true (node_of node) ≡ binds true (nodes_of xs) ∪ binds true (nodes_of ys)

@@ -1,7 +1,7 @@
 -- The names that a tree looks up and does not bind.
 use Rattle.std.specs.Prelude.{Bool, true, false, not, ◌&&◌, ◌||◌, bytes_eq, Option, Some, None, if◌then◌else◌}
 use Rattle.tera_errors.specs.Site as site
-use Rattle.tera_syntax_tree.specs.Tree.{Expr, Nothing, Boolean, Integer, Text, Name, Attribute, Index, Slice, Not, Negate, Binary, And, Or, Ternary, Array, Map, Comprehension, Super, Filter, Test, Call, Component, Optional, Absent, Present, Items, NoItems, MoreItems, Entries, NoEntries, MoreEntries, Arguments, NoArguments, MoreArguments, Filters, NoFilters, MoreFilters, Node, Content, Print, If, Set, Capture, FilterSection, For, Block, Include, ComponentCall, Definition, Break, Continue, Nodes, NoNodes, MoreNodes}
+use Rattle.tera_syntax_tree.specs.Tree.{Expr, Nothing, Boolean, Integer, Text, Name, Attribute, Index, Slice, Not, Negate, Binary, And, Or, Ternary, Array, Map, Comprehension, Super, Filter, Test, Call, Component, Optional, Absent, Present, Items, NoItems, MoreItems, Entries, NoEntries, MoreEntries, Arguments, NoArguments, MoreArguments, Filters, NoFilters, MoreFilters, Node, Content, Print, If, Set, Capture, FilterSection, For, Block, Include, ComponentCall, Break, Continue, Nodes, NoNodes, MoreNodes}
 
 -- a set of names
 abbrev pub Names : Type 0
@@ -81,8 +81,7 @@ filters_free (MoreFilters n all span rest) = arguments_free all ∪ filters_free
 abbrev pub set_binds : Bool → Bool → site.Name → Names
 set_binds in_loop is_global n = if is_global || not in_loop then only n else nobody
 
--- The names that are bound behind nodes, or behind the loop in whose body they stand. A component
--- keeps to itself what it sets.
+-- the names that are bound behind nodes, or behind the loop in whose body they stand
 abbrev mutual
   pub node_binds : Bool → Node → Names
   node_binds in_loop (Content t span) = nobody
@@ -96,7 +95,6 @@ abbrev mutual
   node_binds in_loop (Block n body span) = binds in_loop body
   node_binds in_loop (Include n span) = nobody
   node_binds in_loop (ComponentCall n all body span) = binds in_loop body
-  node_binds in_loop (Definition s body) = nobody
   node_binds in_loop Break = nobody
   node_binds in_loop Continue = nobody
 
@@ -104,8 +102,7 @@ abbrev mutual
   binds in_loop NoNodes = nobody
   binds in_loop (MoreNodes n rest) = node_binds in_loop n ∪ binds in_loop rest
 
--- The names that nodes look up and that nothing binds which stands before in the text, or around.
--- Components are no part of the text around them.
+-- the names that nodes look up and that nothing binds which stands before in the text, or around
 abbrev mutual
   pub node_free : Node → Names
   node_free (Content t span) = nobody
@@ -119,7 +116,6 @@ abbrev mutual
   node_free (Block n body span) = free body
   node_free (Include n span) = nobody
   node_free (ComponentCall n all body span) = entries_free all ∪ free body
-  node_free (Definition s body) = nobody
   node_free Break = nobody
   node_free Continue = nobody
 

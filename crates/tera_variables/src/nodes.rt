@@ -83,16 +83,12 @@ fn add(alloc: Global, node: &Node, found: &mut Found) -> Result<(), AllocError>
             join(inside, found)?;
             add_expression(alloc, &heading.target, found)
         }
-        Node::Block { body, .. } => add_all(alloc, body.as_slice(), found),
+        Node::Block(block) => add_all(alloc, block.body.as_slice(), found),
         Node::ComponentCall { tag, body, .. } => {
             add_all(alloc, body.as_slice(), found)?;
             add_entries(alloc, tag.attributes.as_slice(), found)
         }
-        Node::Content { .. }
-        | Node::Include { .. }
-        | Node::Definition { .. }
-        | Node::Break
-        | Node::Continue => Ok(()),
+        Node::Content { .. } | Node::Include { .. } | Node::Break | Node::Continue => Ok(()),
     }
 }
 
@@ -144,11 +140,10 @@ fn remove_globals_of(node: &Node, found: &mut Found)
             remove_if_global(captured.name, *is_global, found);
             remove_globals(body.as_slice(), found);
         }
-        Node::FilterSection { body, .. }
-        | Node::Block { body, .. }
-        | Node::ComponentCall { body, .. } => remove_globals(body.as_slice(), found),
-        // A component keeps to itself what it sets.
-        Node::Definition { .. } => {}
+        Node::Block(block) => remove_globals(block.body.as_slice(), found),
+        Node::FilterSection { body, .. } | Node::ComponentCall { body, .. } => {
+            remove_globals(body.as_slice(), found)
+        }
         Node::Content { .. }
         | Node::Print { .. }
         | Node::PrintName { .. }

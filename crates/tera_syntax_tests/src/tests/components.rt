@@ -2,7 +2,7 @@
 use super::rows::{Row, Text};
 
 /// Between the standard delimiters.
-pub static DEFINITIONS: [Row; 20] = [
+pub static DEFINITIONS: [Row; 22] = [
     Row(
         "{% component A() %}{% endcomponent %}",
         "(component A() of )",
@@ -41,11 +41,11 @@ pub static DEFINITIONS: [Row; 20] = [
     ),
     Row(
         "a {% component A() %} b {% endcomponent %} c",
-        "(a  0-2)(component A() of ( b  21-24))( c 42-44)",
+        "(a  0-2)( c 42-44)(component A() of ( b  21-24))",
     ),
     Row(
         "a {%- component A() -%} b {%- endcomponent -%} c",
-        "(a 0-1)(component A() of (b 24-25))(c 47-48)",
+        "(a 0-1)(c 47-48)(component A() of (b 24-25))",
     ),
     Row(
         "{% extends 'p' %}{% component A() %}{% endcomponent %}",
@@ -62,6 +62,14 @@ pub static DEFINITIONS: [Row; 20] = [
     Row(
         "{% component A() %}{% endcomponent %}{% component B() %}{% endcomponent B %}",
         "(component A() of )(component B() of )",
+    ),
+    Row(
+        "{% component A() %}a{% endcomponent %}{{ b }}{% component B() %}{% <A> %}{% </A> %}{% endcomponent %}c",
+        "(b 41-42)(c 101-102)(component A() of (a 19-20))(component B() of (<A of  67-70))",
+    ),
+    Row(
+        "{% block b %}{% endblock %}{% component A() %}{% if a %}b{% endif %}{% endcomponent A %}{% if c %}d{% endif %}",
+        "(block b of  9-10)(if (c 94-95) then (d 98-99) else )(component A() of (if (a 52-53) then (b 56-57) else ))",
     ),
     Row(
         "{% component component() %}{% endcomponent component %}",
@@ -85,7 +93,7 @@ pub static DEFINITIONS: [Row; 20] = [
     ),
 ];
 
-pub static UNREAD_DEFINITIONS: [Text; 80] = [
+pub static UNREAD_DEFINITIONS: [Text; 84] = [
     Text("{% if a %}{% component A() %}{% endcomponent %}{% endif %}"),
     Text("{% if a %}{% else %}{% component A() %}{% endcomponent %}{% endif %}"),
     Text("{% if a %}{% elif b %}{% component A() %}{% endcomponent %}{% endif %}"),
@@ -107,6 +115,10 @@ pub static UNREAD_DEFINITIONS: [Text; 80] = [
     Text("{% component A() %}{% endcomponent 'A' %}"),
     Text("{% component A() %}"),
     Text("{% endcomponent %}"),
+    Text("{% component A() %}{% endcomponent %}{% endcomponent %}"),
+    Text("{% component A() %}{% if a %}{% endcomponent %}{% endif %}"),
+    Text("{% component A() %}{% if a %}{% endcomponent %}{% endif %}{% endcomponent %}"),
+    Text("{% component A() %}{% extends 'p' %}{% endcomponent %}"),
     Text("{% component A() %}{% endblock %}"),
     Text("{% component A() %}{% endcomponent %}{% component A(a) %}{% endcomponent %}"),
     Text("{% component A() %}{% endcomponent %}{% extends 'p' %}"),

@@ -72,6 +72,30 @@ const COMPONENTS: [&str; 5] = ["", "{% <X> %}", "a", "{% </X> %}", ""];
 
 const CALLS_IN_COMPONENT: [&str; 5] = [COMPONENT, "{% <X> %}", "a", "{% </X> %}", END_COMPONENT];
 
+const CHOICES_IN_COMPONENT: [&str; 5] = [
+    COMPONENT,
+    "{% if 1 %}",
+    "x",
+    "{% endif %}",
+    END_COMPONENT,
+];
+
+const EMPTY_CAPTURES_IN_COMPONENT: [&str; 5] = [
+    COMPONENT,
+    "{% set a %}",
+    "",
+    "{% endset %}",
+    END_COMPONENT,
+];
+
+const CHOICES_BEHIND_COMPONENT: [&str; 5] = [
+    "{% component A() %}{% endcomponent %}",
+    "{% if 1 %}",
+    "x",
+    "{% endif %}",
+    "",
+];
+
 const DEFAULTS: [&str; 5] = ["{% component A(a = ", "[", "1", "]", END_SIGNATURE];
 
 const ATTRIBUTES: [&str; 5] = ["{% <X a={", "[", "1", "]", "}> %}{% </X> %}"];
@@ -79,7 +103,7 @@ const ATTRIBUTES: [&str; 5] = ["{% <X a={", "[", "1", "]", "}> %}{% </X> %}"];
 const INCLUDES: [&str; 5] = ["", "{% set a %}", "{% include 'b' %}", "{% endset %}", ""];
 
 /// Between the standard delimiters.
-pub static NESTS: [Nest; 28] = [
+pub static NESTS: [Nest; 31] = [
     Nest(PARENTHESES, Read(20_000)),
     Nest(OPEN_PARENTHESES, Refused(20_000)),
     Nest(NOTS, Deepest(198)),
@@ -109,10 +133,14 @@ pub static NESTS: [Nest; 28] = [
     Nest(UNTRUE_TESTS, Deepest(99)),
     Nest(CALLS, Deepest(198)),
     Nest(ARGUMENTS, Deepest(198)),
-    // a default and an attribute are parts of a node
     Nest(COMPONENTS, Deepest(199)),
-    Nest(CALLS_IN_COMPONENT, Deepest(198)),
-    Nest(DEFAULTS, Deepest(198)),
+    // a component that is defined is no level
+    Nest(CALLS_IN_COMPONENT, Deepest(199)),
+    Nest(CHOICES_IN_COMPONENT, Deepest(199)),
+    Nest(EMPTY_CAPTURES_IN_COMPONENT, Deepest(200)),
+    Nest(DEFAULTS, Deepest(199)),
+    // an attribute is a part of a node
     Nest(ATTRIBUTES, Deepest(198)),
+    Nest(CHOICES_BEHIND_COMPONENT, Deepest(199)),
     Nest(INCLUDES, Deepest(199)),
 ];

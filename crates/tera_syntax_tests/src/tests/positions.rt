@@ -34,10 +34,12 @@ const COMPONENT_TWICE: &str = "another component has the same name";
 
 const LATE_EXTENDS: &str = "only white space and comments may stand before `extends`";
 
+const OUT_OF_PLACE: &str = "this may not stand inside of what is open here";
+
 const TOO_LARGE: &str = "the integer is too large";
 
 /// Between the standard delimiters.
-pub static POSITIONS: [Position; 37] = [
+pub static POSITIONS: [Position; 41] = [
     Position("{{ }}", 0, 5, NO_EXPRESSION),
     Position("ab{{}}", 2, 6, NO_EXPRESSION),
     Position("{%  %}", 0, 6, NO_STATEMENT),
@@ -79,10 +81,20 @@ pub static POSITIONS: [Position; 37] = [
     ),
     Position(
         "{% component A() %}{% endcomponent %}x{% component A() %}{% endcomponent %}",
-        38,
-        38,
+        0,
+        0,
         COMPONENT_TWICE,
     ),
+    // where the first text of its body begins
+    Position(
+        "{% component A() %}a{% endcomponent %}x{% component A() %}{{ b }}c{% endcomponent %}",
+        65,
+        65,
+        COMPONENT_TWICE,
+    ),
+    Position("ab{% component A() %}c", 2, 21, NO_END),
+    Position("{% if x %}{% component A() %}", 13, 22, OUT_OF_PLACE),
+    Position("{% component A() %}{% endcomponent B %}", 22, 34, NOT_OPEN),
     Position("a{% extends \"b\" %}", 4, 11, LATE_EXTENDS),
     Position(
         "{{ 170141183460469231731687303715884105728 }}",

@@ -29,6 +29,7 @@ fn is_shown(alloc: Global, read: TeraResult<ParserOutput<'_>>, want: &str) -> bo
         shown.parent(parent.as_str());
     }
     shown.nodes(output.nodes.as_slice());
+    shown.definitions(output.component_definitions.as_slice());
     shown.is(want)
 }
 

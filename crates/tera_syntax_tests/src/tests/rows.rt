@@ -17,7 +17,7 @@ pub struct Other(pub &'static str, pub &'static str, pub Row);
 pub struct Unusable(pub &'static str, pub &'static str);
 
 /// Between the standard delimiters.
-pub static TREES: [Row; 75] = [
+pub static TREES: [Row; 79] = [
     Row("", ""),
     Row("Hello {{ name }}!", "(Hello  0-6)(name 9-13)(! 16-17)"),
     Row("a{# b #}c{# d }} #}", "(a 0-1)(c 8-9)"),
@@ -171,7 +171,7 @@ pub static TREES: [Row; 75] = [
     Row("{% extends 'a\\'\\n\\e' %}", "<a'\n\\e>"),
     Row(
         " \n\t{# a #}\u{a0}{%- extends 'é' -%} \n x{{ y }}",
-        "<é>(x 35-36)(y 39-40)",
+        "<é>( \n\t 0-3)(x 35-36)(y 39-40)",
     ),
     Row("{#- a -#} {# b #}{% extends 'c' %} ", "<c>(  34-35)"),
     Row(
@@ -183,8 +183,18 @@ pub static TREES: [Row; 75] = [
         "{% extends 'a' %}{% set extends = 1 %}",
         "<a>(set extends(1 34-35))",
     ),
-    // white space is white space, by `raw` or not
-    Row("{% raw %} {% endraw %}{% extends 'a' %}", "<a>"),
+    // white space in front is a text as any other, by `raw` or not
+    Row("{% raw %} {% endraw %}{% extends 'a' %}", "<a>(  9-10)"),
+    Row(" {% extends 'a' %}b", "<a>(  0-1)(b 18-19)"),
+    Row(
+        "\n{# b #} {% extends 'a' %}{{ c }}",
+        "<a>(\n 0-1)(  8-9)(c 29-30)",
+    ),
+    Row(" {%- extends 'a' -%} {{ b }}", "<a>(b 24-25)"),
+    Row(
+        " {# b -#} {% extends 'a' %}{% component C() %}c{% endcomponent %}",
+        "<a>(  0-1)(component C() of (c 46-47))",
+    ),
     Row("{% raw %}{% endraw %}{% extends 'a' %}b", "<a>(b 38-39)"),
     Row(" {# a #}\n{{ b }}", "(  0-1)(\n 8-9)(b 12-13)"),
     Row(

@@ -2,7 +2,8 @@
 use std::alloc::{AllocError, Global};
 use tera_errors::Span;
 use tera_syntax::{
-    Argument, Entry, Expression, Heading, Literal, LiteralKey, Node, SectionFilter, Signature,
+    Argument, Block, DefinedComponent, Entry, Expression, Heading, Literal, LiteralKey, Node,
+    SectionFilter, Signature,
 };
 
 /// Words that are written one behind another.
@@ -345,7 +346,7 @@ impl Shown {
                     self.nodes(other);
                     self.put(")");
                 }
-                Node::Block { name, body, span } => {
+                Node::Block(Block { name, body, span }) => {
                     self.put("(block ");
                     self.put(name);
                     self.put(" of ");
@@ -365,16 +366,20 @@ impl Shown {
                     self.nodes(body);
                     self.put_span(*span);
                 }
-                Node::Definition { signature, body } => {
-                    self.put("(component ");
-                    self.signature(signature);
-                    self.put(" of ");
-                    self.nodes(body);
-                    self.put(")");
-                }
                 Node::Break => self.put("(break)"),
                 Node::Continue => self.put("(continue)"),
             }
+        }
+    }
+
+    /// Components that are defined, one behind another.
+    pub fn definitions(&mut self, definitions: &[DefinedComponent]) {
+        for definition in definitions {
+            self.put("(component ");
+            self.signature(&definition.signature);
+            self.put(" of ");
+            self.nodes(&definition.body);
+            self.put(")");
         }
     }
 }

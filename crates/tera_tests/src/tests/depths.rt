@@ -19,6 +19,14 @@ const CHAINED: [&str; 5] = [
 
 const LOOPS: [&str; 5] = ["", "{% for c in \"a\" %}", "x", "{% endfor %}", ""];
 
+const IN_COMPONENT: [&str; 5] = [
+    "{{ <Q/> }}{% component Q() %}",
+    "{% if 1 %}",
+    "x",
+    "{% endif %}",
+    "{% endcomponent %}",
+];
+
 const NOTS: [&str; 5] = ["{% if ", "not ", "name %}x{% endif %}", "", ""];
 
 const PARENTHESES: [&str; 5] = ["{{ ", "(", "name", ")", " }}"];
@@ -26,7 +34,7 @@ const PARENTHESES: [&str; 5] = ["{{ ", "(", "name", ")", " }}"];
 const OPEN_PARENTHESES: [&str; 5] = ["{{ ", "(", "name", "", " }}"];
 
 /// Nests, and what they render to; none where that is a `SyntaxError`.
-const DEPTHS: [(Nest, Option<&str>); 10] = [
+const DEPTHS: [(Nest, Option<&str>); 12] = [
     (Nest(CHOICES, 199), Some("x")),
     (Nest(CHOICES, 200), None),
     // the first condition is an `if`
@@ -34,6 +42,9 @@ const DEPTHS: [(Nest, Option<&str>); 10] = [
     (Nest(CHAINED, 199), None),
     (Nest(LOOPS, 199), Some("x")),
     (Nest(LOOPS, 200), None),
+    // a component is no level itself
+    (Nest(IN_COMPONENT, 199), Some("x")),
+    (Nest(IN_COMPONENT, 200), None),
     (Nest(NOTS, 198), Some("x")),
     (Nest(NOTS, 199), None),
     (Nest(PARENTHESES, 20_000), Some("world")),

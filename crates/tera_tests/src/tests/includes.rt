@@ -76,6 +76,32 @@ ok
 (base)childownt(base)
 t(base)
 
+@@ template p
+P
+@@ end
+@@ template c
+ {% extends "p" %}x
+@@ end
+@@ template d
+ {# a comment #}{% raw %} {% endraw %}
+{% extends "p" %}{% component Q() %}q{% endcomponent %}x
+@@ end
+@@ template t
+[{% include "c" %}][{% include "d" %}]
+@@ end
+@@ add
+@@ render c
+@@ render t
+=>
+ok
+ok
+ok
+ok
+ok
+P
+[ x][  
+x]
+
 @@ prefix themes/cool/
 @@ template themes/cool/base.html
 {% block content %}default{% endblock %}

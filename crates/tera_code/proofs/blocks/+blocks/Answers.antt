@@ -16,6 +16,6 @@ add-returns-in-Capture t c =
 pub add-returns-in_ok-put-in-Block : goal.add-returns-in_ok-put-in-Block
 add-returns-in_ok-put-in-Block t c =
     on_ok_by _ _ _ _ (
-    found_more (block_listing c.args.file.now) _ _ ((c.in-Block.name.now, nodes_of c.as_slice-body.result.now) ∷ []) _ _ refl c.in_ok-put-in-Block.ensures.ok
-    ∙ ap (λ x. map block_of c.args.found.now.items ++ block_listings c.args.file.now x) (blocks_block _ c.in-Block.name c.in-Block.body c.in-Block.span _ c.in-Block.is c.as_slice-body.ensures.value)
+    found_more (block_listing c.args.file.now) _ _ ((c.in-Block.block.name.now, nodes_of c.as_slice-body.result.now) ∷ []) _ _ refl c.in_ok-put-in-Block.ensures.ok
+    ∙ ap (λ x. map block_of c.args.found.now.items ++ block_listings c.args.file.now x) (blocks_block _ c.in-Block.block _ c.in-Block.is c.as_slice-body.ensures.value)
     ) c.add_all.ensures.ok

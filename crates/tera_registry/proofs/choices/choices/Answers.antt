@@ -1,7 +1,7 @@
 use Rattle.std.proofs.Common.{◌≡◌, None, string_bytes, refl, ap, ◌∙◌, arith}
 use Rattle.std.proofs.lemmas.List.{take_all}
 use Rattle.tera_meaning.specs.Components.{priority}
-use Rattle.tera_syntax_tree.specs.View.{nodes_of}
+use Rattle.tera_syntax_tree.specs.View.{definitions_of}
 use Rattle.tera_syntax_tree.specs.Definitions.{component_names}
 use Rattle.tera_registry.specs.Kept.{entry_of, entries_of, seen}
 use Rattle.tera_registry.specs.Components.{kept_names}
@@ -20,10 +20,10 @@ loop-position-preserved c =
     let t = entry_of u in
     let at = entry-among r ts i _ _ refl c.loop-position-test.true c.index-templates-position.is c.deref-template.ensures in
     let good : c.priority-priority.result ≡ priority r t.0 = c.priority-priority.ensures ∙ ap (priority r) c.as_str.ensures.value in
-    let names : kept_names u.components.items ≡ component_names t.1.tree.nodes = kept-names-are (string_bytes u.name) (nodes_of u.meant.nodes) u.components.items u.defined in
+    let names : kept_names u.components.items ≡ component_names t.1.tree.definitions = kept-names-are (string_bytes u.name) (definitions_of u.meant.definitions) u.components.items u.defined in
     record {
       taken = λ q.
-          c.in_ok-choose_all.ensures q ∙ ap (λ p. chosen_in q i p 0 (kept_names u.components.items) (chosen c.loop-position.taken q)) good ∙ ap (λ ns. chosen_in q i (priority r t.0) 0 ns (chosen c.loop-position.taken q)) names ∙ ap (chosen_in q i (priority r t.0) 0 (component_names t.1.tree.nodes)) (c.loop-position.invariant.taken q) ∙ chosen-next r q i t at;
+          c.in_ok-choose_all.ensures q ∙ ap (λ p. chosen_in q i p 0 (kept_names u.components.items) (chosen c.loop-position.taken q)) good ∙ ap (λ ns. chosen_in q i (priority r t.0) 0 ns (chosen c.loop-position.taken q)) names ∙ ap (chosen_in q i (priority r t.0) 0 (component_names t.1.tree.definitions)) (c.loop-position.invariant.taken q) ∙ chosen-next r q i t at;
       tie = rw c.first-tie.ensures (first-more r (ties_at r) i t c.loop-position.tie c.ties.result c.loop-position.invariant.tie at (c.ties.ensures ∙ ties-is r i t u.components.items c.loop-position.taken c.priority-priority.result names good c.loop-position.invariant.taken));
     }
 

@@ -6,7 +6,7 @@ use Rattle.tera_registry.proofs.Kept.{entry-is}
 use Rattle.tera_registry.proofs.definers.lacks.Goals as goal
 use Rattle.tera_registry.proofs.definers.lacks.Goals.{then-loses, else-loses}
 
-lacks-by : (r : Registry) (t : Entry) (loses callee include : Bool) → loses ≡ loses_a_block r t → callee ≡ lacks_a_callee r.engine (is_component r) t.1.tree.nodes → include ≡ misses_an_include r t.1.tree.nodes → (loses || (callee || include)) ≡ lacks_something r t
+lacks-by : (r : Registry) (t : Entry) (loses callee include : Bool) → loses ≡ loses_a_block r t → callee ≡ lacks_a_callee r.engine (is_component r) t.1.tree → include ≡ misses_an_include r t.1.tree → (loses || (callee || include)) ≡ lacks_something r t
 lacks-by r t loses callee include e f h = ap₂ (λ x y. x || y) e (ap₂ (λ x y. x || y) f h)
 
 pub returns-then-misses_a_callee : goal.returns-then-misses_a_callee
@@ -15,15 +15,15 @@ returns-then-misses_a_callee g c = λ t at.
     let same = entry-is r c.args.templates.now c.args.of _ _ t c.requires.1.0.same c.requires.1.1.0 c.index-templates-of.is c.deref-template.ensures at in
     c.if-misses_a_callee.true ∙ elim c.if-loses.branch [
       | then-loses w ↦ lacks-by r t true _ _ (sym w.if-loses.true ∙ c.loses.ensures t at) refl refl
-      | else-loses w ↦ lacks-by r t false true _ (sym w.if-loses.false ∙ c.loses.ensures t at) (sym c.if-misses_a_callee.true ∙ w.value-is ∙ w.misses_a_callee.ensures r c.requires.1.1.1.1.0 c.requires.1.1.1.1.1 ∙ ap (λ (u : Entry). lacks_a_callee r.engine (is_component r) u.1.tree.nodes) same) refl
+      | else-loses w ↦ lacks-by r t false true _ (sym w.if-loses.false ∙ c.loses.ensures t at) (sym c.if-misses_a_callee.true ∙ w.value-is ∙ w.misses_a_callee.ensures r c.requires.1.1.1.1.0 c.requires.1.1.1.1.1 ∙ ap (λ (u : Entry). lacks_a_callee r.engine (is_component r) u.1.tree) same) refl
     ]
 
 pub returns-else-misses_a_callee : goal.returns-else-misses_a_callee
 returns-else-misses_a_callee g c = λ t at.
     let r = g.registry in
     let same = entry-is r c.args.templates.now c.args.of _ _ t c.requires.1.0.same c.requires.1.1.0 c.index-templates-of.is c.deref-template.ensures at in
-    let include = c.misses.ensures r (c.requires.1.1.1.0 t at ∙ ap (λ u. length (includes_of r u)) (sym same)) ∙ ap (λ (u : Entry). misses_an_include r u.1.tree.nodes) same in
+    let include = c.misses.ensures r (c.requires.1.1.1.0 t at ∙ ap (λ u. length (includes_of r u)) (sym same)) ∙ ap (λ (u : Entry). misses_an_include r u.1.tree) same in
     elim c.if-loses.branch [
       | then-loses w ↦ (let q : true ≡ false = sym (w.value-is ∙ w.if-loses.true) ∙ c.if-misses_a_callee.false in cc)
-      | else-loses w ↦ lacks-by r t false false _ (sym w.if-loses.false ∙ c.loses.ensures t at) (sym c.if-misses_a_callee.false ∙ w.value-is ∙ w.misses_a_callee.ensures r c.requires.1.1.1.1.0 c.requires.1.1.1.1.1 ∙ ap (λ (u : Entry). lacks_a_callee r.engine (is_component r) u.1.tree.nodes) same) include
+      | else-loses w ↦ lacks-by r t false false _ (sym w.if-loses.false ∙ c.loses.ensures t at) (sym c.if-misses_a_callee.false ∙ w.value-is ∙ w.misses_a_callee.ensures r c.requires.1.1.1.1.0 c.requires.1.1.1.1.1 ∙ ap (λ (u : Entry). lacks_a_callee r.engine (is_component r) u.1.tree) same) include
     ]

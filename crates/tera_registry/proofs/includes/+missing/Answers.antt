@@ -6,7 +6,7 @@ use Rattle.tera_syntax_tree.specs.View.{node_of, nodes_of}
 use Rattle.tera_meaning.specs.Registry.{Registry}
 use Rattle.tera_meaning.specs.Resolve.{resolve}
 use Rattle.tera_registry.specs.Kept.{entries_of, seen}
-use Rattle.tera_registry.proofs.Bodies.{includes_in_body, in_both, any_of_both}
+use Rattle.tera_registry.proofs.Bodies.{in_body, includes_in_block, in_both, any_of_both}
 use Rattle.tera_registry.proofs.Filled.{is_none-position}
 use Rattle.tera_registry.proofs.includes.+missing.Goals as goal
 
@@ -23,22 +23,27 @@ none_if_not_some None false e = (let q : false ≡ true = e in cc)
 none_if_not_some (Some i) true e = (let q : true ≡ false = e in cc)
 none_if_not_some (Some i) false e = refl
 
-pub node_misses-returns-then-misses : goal.node_misses-returns-then-misses
-node_misses-returns-then-misses t c =
+pub node_misses-returns-then-nodes_miss : goal.node_misses-returns-then-nodes_miss
+node_misses-returns-then-nodes_miss t c =
     let p = is_missing (seen c.args.templates.now c.args.prefixes.now) in
-    let first = c.misses-in-If.ensures ∙ ap (λ x. list_any p (includes (nodes_of x))) c.as_slice-in-If.ensures.value in
-    c.if-misses.true ∙ sym (any_of_both p _ _ _ true (ap (λ x. x.0) (in_both _ c.in-If.body c.in-If.other c.in-If.is)) (sym first ∙ c.if-misses.true))
+    let first = c.nodes_miss-in-If.ensures ∙ ap (λ x. list_any p (includes (nodes_of x))) c.as_slice-in-If.ensures.value in
+    c.if-nodes_miss.true ∙ sym (any_of_both p _ _ _ true (ap (λ x. x.0) (in_both _ c.in-If.body c.in-If.other c.in-If.is)) (sym first ∙ c.if-nodes_miss.true))
 
-pub node_misses-returns-else-misses : goal.node_misses-returns-else-misses
-node_misses-returns-else-misses t c =
+pub node_misses-returns-else-nodes_miss : goal.node_misses-returns-else-nodes_miss
+node_misses-returns-else-nodes_miss t c =
     let p = is_missing (seen c.args.templates.now c.args.prefixes.now) in
-    let first = c.misses-in-If.ensures ∙ ap (λ x. list_any p (includes (nodes_of x))) c.as_slice-in-If.ensures.value in
-    c.misses-else-misses.ensures ∙ ap (λ x. list_any p (includes (nodes_of x))) c.as_slice-else-misses.ensures.value ∙ sym (any_of_both p _ _ _ false (ap (λ x. x.0) (in_both _ c.in-If.body c.in-If.other c.in-If.is)) (sym first ∙ c.if-misses.false))
+    let first = c.nodes_miss-in-If.ensures ∙ ap (λ x. list_any p (includes (nodes_of x))) c.as_slice-in-If.ensures.value in
+    c.nodes_miss-else-nodes_miss.ensures ∙ ap (λ x. list_any p (includes (nodes_of x))) c.as_slice-else-nodes_miss.ensures.value ∙ sym (any_of_both p _ _ _ false (ap (λ x. x.0) (in_both _ c.in-If.body c.in-If.other c.in-If.is)) (sym first ∙ c.if-nodes_miss.false))
 
 pub node_misses-returns-in-Block : goal.node_misses-returns-in-Block
 node_misses-returns-in-Block t c =
     let p = is_missing (seen c.args.templates.now c.args.prefixes.now) in
-    c.misses.ensures ∙ ap (list_any p) (ap (λ x. includes (nodes_of x)) c.as_slice.ensures.value ∙ includes_in_body _ c.in-Block.body c.in-Block.is)
+    c.nodes_miss.ensures ∙ ap (list_any p) (ap (λ x. includes (nodes_of x)) c.as_slice.ensures.value ∙ includes_in_block _ c.in-Block.block c.in-Block.is)
+
+pub node_misses-returns-in-Capture : goal.node_misses-returns-in-Capture
+node_misses-returns-in-Capture t c =
+    let p = is_missing (seen c.args.templates.now c.args.prefixes.now) in
+    c.nodes_miss-in-Capture.ensures ∙ ap (list_any p) (ap (λ x. includes (nodes_of x)) c.as_slice-in-Capture.ensures.value ∙ ap (λ x. x.0) (in_body _ c.in-Capture.body c.in-Capture.is))
 
 pub node_misses-returns-in-Include : goal.node_misses-returns-in-Include
 node_misses-returns-in-Include t c =

@@ -1,10 +1,13 @@
-use Rattle.std.proofs.Common.{◌≡◌, drop}
+use Rattle.std.proofs.Common.{◌≡◌, is_none, drop}
+use Rattle.std.specs.List.{list_any}
+use Rattle.tera_syntax_tree.specs.Includes.{includes}
 use Rattle.tera_syntax_tree.specs.View.{nodes_of}
-use Rattle.tera_meaning.specs.Accepted.{misses_an_include}
+use Rattle.tera_meaning.specs.Resolve.{resolve}
 use Rattle.tera_registry.specs.Kept.{seen}
 use Rattle.tera_registry.proofs.includes.+missing.Given as goal
 
 -- what was passed misses nothing
-abbrev pub invariant-misses-loop-node : goal.invariant-misses-loop-node
-invariant-misses-loop-node l =
-    misses_an_include (seen l.templates l.prefixes) (nodes_of (drop l.node-index l.nodes)) ≡ misses_an_include (seen l.templates l.prefixes) (nodes_of l.nodes)
+abbrev pub invariant-nodes_miss-loop-node : goal.invariant-nodes_miss-loop-node
+invariant-nodes_miss-loop-node l =
+    list_any (λ name. is_none (resolve (seen l.templates l.prefixes) name)) (includes (nodes_of (drop l.node-index l.nodes)))
+    ≡ list_any (λ name. is_none (resolve (seen l.templates l.prefixes) name)) (includes (nodes_of l.nodes))

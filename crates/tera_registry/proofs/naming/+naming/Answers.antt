@@ -4,7 +4,7 @@ use Rattle.tera_registry.proofs.naming.+naming.Goals as goal
 
 pub add-returns-in-Includes : goal.add-returns-in-Includes
 add-returns-in-Includes t c =
-    found_in (named c.args.naming) _ _ _ c.in-Block.body.items _ _ (named_in_block _ _ c.in-Block.name c.in-Block.body c.in-Block.span c.in-Includes.is c.in-Block.is) c.as_slice.ensures.value c.add_all.ensures
+    found_in (named c.args.naming) _ _ _ c.in-Block.block.body.items _ _ (named_in_block _ _ c.in-Block.block c.in-Includes.is c.in-Block.is) c.as_slice.ensures.value c.add_all.ensures
 
 pub add-returns-in-Capture : goal.add-returns-in-Capture
 add-returns-in-Capture t c =

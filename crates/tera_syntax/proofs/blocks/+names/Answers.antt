@@ -31,13 +31,13 @@ gather_node-returns-in_ok-gather-in-If-clause-points t c size inside before =
 
 pub gather_node-returns-in_ok-push-in-Block-clause-gathered : goal.gather_node-returns-in_ok-push-in-Block-clause-gathered
 gather_node-returns-in_ok-push-in-Block-clause-gathered t c =
-    let h = block_holds c.args.node.now c.in-Block.name c.in-Block.body c.in-Block.span _ c.as_slice.ensures.value c.in-Block.is in
+    let h = block_holds c.args.node.now c.in-Block.block _ c.as_slice.ensures.value c.in-Block.is in
     let pushed = ap names_of c.in_ok-push-in-Block.ensures.items ∙ map-append (λ n. (n.name.now, n.span)) c.args.names.now.items (_ ∷ []) in
     subst (λ names. Gathers names c.args.names.now.items c.gather.result c.gather.new.names.items) (sym h.0) (gathered_behind _ _ _ _ _ _ pushed c.gather.ensures.gathered)
 
 pub gather_node-returns-in_ok-push-in-Block-clause-points : goal.gather_node-returns-in_ok-push-in-Block-clause-points
 gather_node-returns-in_ok-push-in-Block-clause-points t c size inside before =
-    let h = block_holds c.args.node.now c.in-Block.name c.in-Block.body c.in-Block.span _ c.as_slice.ensures.value c.in-Block.is in
+    let h = block_holds c.args.node.now c.in-Block.block _ c.as_slice.ensures.value c.in-Block.is in
     let p = h.1 size inside in
     let P : PlacedName → Type 0 = λ n. Within size n.span in
     c.gather.ensures.points size p.0 (All-same P _ _ c.in_ok-push-in-Block.ensures.items (All-push P c.args.names.now.items _ before p.1))

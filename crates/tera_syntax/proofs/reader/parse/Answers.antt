@@ -4,7 +4,7 @@ use Rattle.tera_syntax_tree.specs.Delimiters.{delimiters_of}
 use Rattle.tera_syntax_tree.specs.Inside.{Within}
 use Rattle.tera_syntax.specs.Reads.{Reads, ReadsPlainText}
 use Rattle.tera_syntax_tree.specs.View.{tree_of}
-use Rattle.tera_syntax.proofs.Extending.{file_sound, file_placed, file_defined}
+use Rattle.tera_syntax.proofs.Extending.{file_sound, file_placed, file_outside}
 use Rattle.tera_syntax.proofs.Inside.{tree_inside}
 use Rattle.tera_syntax.proofs.Plain.{says_one, refused_by, spells_none, plain, one_tree}
 use Rattle.tera_syntax.proofs.reader.parse.Goals as goal
@@ -14,7 +14,7 @@ pub returns-in-Ok-clause-reads : goal.returns-in-Ok-clause-reads
 returns-in-Ok-clause-reads c =
     let tree = tree_of c.in-Ok.output in
     let s = file_sound max_tree_depth _ tree c.in-Ok.ensures.value in
-    (s.0, (s.1, file_placed s.0, s.2.0, file_defined s.0, s.2.1), λ other w h. one_tree c.args.name.now (delimiters_of c.args.delimiters.now) c.args.source.now other tree h s.0)
+    (s.0, (s.1, file_placed s.0, s.2.0, file_outside s.0, s.2.1), λ other w h. one_tree c.args.name.now (delimiters_of c.args.delimiters.now) c.args.source.now other tree h s.0)
 
 pub returns-in-Ok-clause-inside : goal.returns-in-Ok-clause-inside
 returns-in-Ok-clause-inside c =

@@ -5,7 +5,7 @@ use Rattle.tera_variables.specs.Free.{binds, node_binds, ◌∖◌}
 use Rattle.tera_variables.specs.Sets.{names_in}
 use Rattle.tera_variables.proofs.Unions.{without-pass}
 use Rattle.tera_variables.proofs.Forms.{drop-here}
-use Rattle.tera_variables.proofs.Bodies.{node_capture, binds_of_body, binds_of_both}
+use Rattle.tera_variables.proofs.Bodies.{node_block, node_capture, binds_of_body, binds_of_both}
 use Rattle.tera_variables.proofs.nodes.+globals.Goals as goal
 
 pub remove_globals-loop-node-preserved : goal.remove_globals-loop-node-preserved
@@ -27,3 +27,7 @@ remove_globals_of-returns-in-Capture t c =
 pub remove_globals_of-returns-in-FilterSection : goal.remove_globals_of-returns-in-FilterSection
 remove_globals_of-returns-in-FilterSection t c =
     c.remove_globals-in-FilterSection.ensures ∙ ap (λ x. names_in c.args.found.now ∖ x) (sym (binds_of_body _ c.in-FilterSection.body _ c.in-FilterSection.is c.as_slice-in-FilterSection.ensures.value))
+
+pub remove_globals_of-returns-in-Block : goal.remove_globals_of-returns-in-Block
+remove_globals_of-returns-in-Block t c =
+    c.remove_globals-in-Block.ensures ∙ ap (λ x. names_in c.args.found.now ∖ x) (sym (ap (node_binds true) (node_block _ c.in-Block.block _ c.in-Block.is c.as_slice-in-Block.ensures.value)))

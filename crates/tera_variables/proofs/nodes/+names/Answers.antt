@@ -30,7 +30,7 @@ add-returns-in_ok-join-in-For t c =
 
 pub add-returns-in-Block : goal.add-returns-in-Block
 add-returns-in-Block t c =
-    whole-node _ _ _ _ _ (node_block _ c.in-Block.name c.in-Block.body c.in-Block.span _ c.in-Block.is c.as_slice-in-Block.ensures.value) c.add_all-in-Block.ensures
+    whole-node _ _ _ _ _ (node_block _ c.in-Block.block _ c.in-Block.is c.as_slice-in-Block.ensures.value) c.add_all-in-Block.ensures
 
 pub add-returns-in_ok-add_all-in-ComponentCall : goal.add-returns-in_ok-add_all-in-ComponentCall
 add-returns-in_ok-add_all-in-ComponentCall t c =

@@ -1,8 +1,8 @@
-use Rattle.std.proofs.Common.{Global, Result, string_bytes, ap, subst}
+use Rattle.std.proofs.Common.{Global, Result, string_bytes, subst}
 use Rattle.tera_errors.specs.Site.{Text}
 use Rattle.tera_errors.specs.Fault.{Fault}
 use Rattle.tera_errors.specs.Answer.{Gives}
-use Rattle.tera_syntax_tree.specs.View.{nodes_of, tree_of}
+use Rattle.tera_syntax_tree.specs.View.{tree_of}
 use Rattle.tera.specs.Registry.{registry_of}
 use Rattle.tera.proofs.Renders.{refused, refused-tree, rendered, beside-means}
 use Rattle.tera.proofs.engine.TeraOver.read_and_render.Goals as goal
@@ -21,6 +21,6 @@ pub returns-in-Ok-allow : goal.returns-in-Ok-allow
 returns-in-Ok-allow g c =
     let r = registry_of g.O.Objects.engine c.args.self.now in
     let tree = tree_of c.in-Ok.output in
-    let is = beside-means r tree (nodes_of c.as_slice.result.now) c.args.context.now c.args.autoescape (ap nodes_of c.as_slice.ensures.value) in
-    let P : Result Text Fault → Type 0 = Gives (string_bytes {Z = Global}) c.render_nodes.result in
-    rendered r c.args.input.now c.args.context.now (string_bytes {Z = Global}) c.args.autoescape tree c.render_nodes.result c.in-Ok.ensures.reads c.in-Ok-allow.ensures.done (subst P is c.render_nodes.ensures)
+    let is = beside-means r tree c.args.context.now c.args.autoescape in
+    let P : Result Text Fault → Type 0 = Gives (string_bytes {Z = Global}) c.render_output.result in
+    rendered r c.args.input.now c.args.context.now (string_bytes {Z = Global}) c.args.autoescape tree c.render_output.result c.in-Ok.ensures.reads c.in-Ok-allow.ensures.done (subst P is c.render_output.ensures)

@@ -20,8 +20,8 @@ use Rattle.tera_registry.proofs.Listed.{chosen-in-all}
 use Rattle.tera_registry.proofs.text.TextTable.lacks_a_callee.Goals as goal
 
 -- the body lacks something, or else what its components lack decides
-by-body : (self : TextTable) (engine : Engine) (body : Code) (own : List Component) (first : Bool) (r : Registry) (tree : Tree) (file : Name) → own ≡ self.components.items → body ≡ self.body.code.value → r.engine ≡ engine → (chunk_of self.body).code ≡ nodes_code tree.nodes 0 → map kept_of self.components.items ≡ kept_all file tree.nodes → blocks tree.nodes ≡ [] → first ≡ code_lacks engine (is_there self.templates.now.choices own) body.chunk.code
-    → (first || list_any (λ k. code_lacks engine (is_there self.templates.now.choices own) k.code.value.chunk.code) own) ≡ lacks_a_callee r.engine (is_component_beside (with_templates r self.templates.now) tree) tree.nodes
+by-body : (self : TextTable) (engine : Engine) (body : Code) (own : List Component) (first : Bool) (r : Registry) (tree : Tree) (file : Name) → own ≡ self.components.items → body ≡ self.body.code.value → r.engine ≡ engine → (chunk_of self.body).code ≡ nodes_code tree.nodes 0 → map kept_of self.components.items ≡ kept_all file tree.definitions → blocks tree.nodes ≡ [] → first ≡ code_lacks engine (is_there self.templates.now.choices own) body.chunk.code
+    → (first || list_any (λ k. code_lacks engine (is_there self.templates.now.choices own) k.code.value.chunk.code) own) ≡ lacks_a_callee r.engine (is_component_beside (with_templates r self.templates.now) tree) tree
 by-body self engine body own first r tree file whose which of code kept none is =
     let ts = self.templates.now in
     let q = with_templates r ts in

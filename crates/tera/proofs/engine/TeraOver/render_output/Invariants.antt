@@ -1,4 +1,4 @@
-use Rattle.tera.proofs.engine.TeraOver.render_nodes.Given as goal
+use Rattle.tera.proofs.engine.TeraOver.render_output.Given as goal
 
 abbrev pub ghost-run_within : goal.ghost-run_within
 ghost-run_within g a = g.about

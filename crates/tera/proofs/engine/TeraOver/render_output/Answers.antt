@@ -1,0 +1,47 @@
+use Rattle.std.proofs.Common.{◌≡◌, Global, Result, string_bytes, refl, sym, ap, ◌∙◌, subst}
+use Rattle.tera_errors.specs.Site.{Text}
+use Rattle.tera_errors.specs.Fault.{Fault}
+use Rattle.tera_errors.specs.Answer.{Gives}
+use Rattle.tera_syntax_tree.specs.Tree.{Tree}
+use Rattle.tera_syntax_tree.specs.View.{definitions_of, nodes_of, tree_of}
+use Rattle.tera_meaning.specs.Components.{one_off_name}
+use Rattle.tera_meaning.specs.Known.{lacks_a_callee}
+use Rattle.tera_meaning.specs.Accepted.{misses_an_include}
+use Rattle.tera_code.specs.Code.{nodes_code}
+use Rattle.tera_code.specs.Listing.{Listing}
+use Rattle.tera_meaning.specs.Rendering.{is_component_beside}
+use Rattle.tera_registry.specs.Components.{kept_all}
+use Rattle.tera_registry.specs.Templates.{with_templates}
+use Rattle.tera_registry.specs.declared.templates.Templates.{Templates}
+use Rattle.tera_machine.specs.Subject.{Subject}
+use Rattle.tera.specs.Registry.{registry_of, is_there, tree_beside}
+use Rattle.tera.proofs.Renders.{lacking-says, missing-says, nothing-missing}
+use Rattle.tera.proofs.engine.TeraOver.render_output.Goals as goal
+
+pub returns-then-lacks_a_callee : goal.returns-then-lacks_a_callee
+returns-then-lacks_a_callee g c =
+    let code = ap (λ (l : Listing). l.code) (c.in_ok-text.ensures.body ∙ c.in_ok-chunk.ensures.ok) ∙ ap (λ xs. nodes_code (nodes_of xs) 0) c.as_slice-nodes.ensures.value in
+    let own = c.in_ok-text.ensures.components ∙ c.in_ok-own.ensures.ok ∙ ap (λ xs. kept_all one_off_name (definitions_of xs)) c.as_slice-definitions.ensures.value in
+    let r = registry_of g.O.Objects.engine c.args.self.now in
+    let tree : Tree = tree_of c.args.output.now in
+    let lacks = subst (λ (ts : Templates). c.lacks_a_callee.result ≡ lacks_a_callee r.engine (is_component_beside (with_templates r ts) tree) tree) c.in_ok-text.ensures.templates (c.lacks_a_callee.ensures r tree one_off_name refl code own c.requires.1.1.1.1) in
+    let same = ap (λ (s : Subject). lacks_a_callee s.world.registry.engine (is_there s.world) (tree_beside s)) c.requires.1.1.1.0 in
+    lacking-says g.about c.message.result (same ∙ sym lacks ∙ c.if-lacks_a_callee.true) c.message.ensures
+
+pub returns-then-misses_an_include : goal.returns-then-misses_an_include
+returns-then-misses_an_include g c =
+    let same = ap (λ (s : Subject). misses_an_include s.world.registry (tree_beside s)) c.requires.1.1.1.0 in
+    let missing = same ∙ sym (c.misses_an_include.ensures (registry_of g.O.Objects.engine c.args.self.now)) ∙ c.if-misses_an_include.true in
+    missing-says g.about c.message-then-misses_an_include.result missing c.message-then-misses_an_include.ensures
+
+pub returns : goal.returns
+returns g c =
+    let code = ap (λ (l : Listing). l.code) (c.in_ok-text.ensures.body ∙ c.in_ok-chunk.ensures.ok) ∙ ap (λ xs. nodes_code (nodes_of xs) 0) c.as_slice-nodes.ensures.value in
+    let own = c.in_ok-text.ensures.components ∙ c.in_ok-own.ensures.ok ∙ ap (λ xs. kept_all one_off_name (definitions_of xs)) c.as_slice-definitions.ensures.value in
+    let r = registry_of g.O.Objects.engine c.args.self.now in
+    let tree : Tree = tree_of c.args.output.now in
+    let lacks = subst (λ (ts : Templates). c.lacks_a_callee.result ≡ lacks_a_callee r.engine (is_component_beside (with_templates r ts) tree) tree) c.in_ok-text.ensures.templates (c.lacks_a_callee.ensures r tree one_off_name refl code own c.requires.1.1.1.1) in
+    let known = ap (λ (s : Subject). lacks_a_callee s.world.registry.engine (is_there s.world) (tree_beside s)) c.requires.1.1.1.0 ∙ sym lacks ∙ c.if-lacks_a_callee.false in
+    let there = ap (λ (s : Subject). misses_an_include s.world.registry (tree_beside s)) c.requires.1.1.1.0 ∙ sym (c.misses_an_include.ensures (registry_of g.O.Objects.engine c.args.self.now)) ∙ c.if-misses_an_include.false in
+    let P : Result Text Fault → Type 0 = Gives (string_bytes {Z = Global}) c.run_within.result in
+    subst P (nothing-missing g.about known there) c.run_within.ensures

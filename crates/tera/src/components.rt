@@ -12,8 +12,6 @@ ghost use Rattle.tera.specs.Rendering.{ComponentByName, AppendsOneOf};
 
 use crate::engine::TeraOver;
 use std::alloc::Global;
-use std::marker::Brand;
-use std::sync::ledger::{Blank, Ledger};
 use tera_components::ComponentInfo;
 use tera_machine::VirtualMachine;
 use tera_objects::Objects;
@@ -118,19 +116,17 @@ impl<O: Objects> TeraOver<O> {
             Err(error) => return Err(error),
         };
         scopes.enter_component(context)?;
-        self.run_component::<Brand>(found, scopes, autoescape, Blank::new(1))
+        self.run_component(found, scopes, autoescape)
     }
 
     // The text of the body of a component, which reads these scopes. The subject is the body's.
-    fn run_component<L: Ledger>(
+    fn run_component(
         &self,
         found: Defined<'_>,
         scopes: Scopes<'_>,
         autoescape: bool,
-        blank: Blank,
     ) -> TeraResult<String>
         ghost about: { Subject }
-        requires ledger { (blank.name ≡ L.name) × (blank.parts ≡ L.parts) × (L.parts ≡ 1) }
         requires subject { about ≡ subject_of_component (registry_of O.engine self.now)
             (component (registry_of O.engine self.now) found.definition.now.name)
             (around_of scopes) autoescape }
@@ -140,7 +136,7 @@ impl<O: Objects> TeraOver<O> {
         ensures { Gives string_bytes result (text_meant about) }
     {
         let machine = VirtualMachine::new_with_autoescape(self.alloc, autoescape, &self.objects);
-        self.run_within::<L>(&machine, found.body, scopes, blank)
+        self.run_within(&machine, found.body, scopes)
     }
 }
 

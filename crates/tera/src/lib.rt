@@ -42,8 +42,8 @@ pub use tera_state::{
 };
 // Code, templates by name, and what runs.
 pub use tera_code::{
-    CallKind, Callee, Chunk, Comparison, Compiler, Constant, Instruction, Keys, LentInstruction,
-    LentName, Names, Spreads, Steps, Target, Text, compiled,
+    BlockCode, CallKind, Callee, Chunk, Comparison, Compiler, Constant, Instruction, Keys,
+    LentInstruction, LentName, Names, Spreads, Steps, Target, Text, compiled,
 };
 pub use tera_machine::{
     Asked, AskedComponent, AskedTemplate, Configuration, Ended, LoopPlace, Numbered, OpenBlock,

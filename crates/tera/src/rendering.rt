@@ -11,8 +11,6 @@ ghost use Rattle.tera_machine.specs.Prelude.{Subject, IsLinked, IsOf, engine_of}
 
 use crate::engine::TeraOver;
 use std::alloc::{AllocError, Global};
-use std::marker::Brand;
-use std::sync::ledger::{Blank, Ledger};
 use tera_code::{Chunk, Steps, compiled};
 use tera_machine::{Configuration, VirtualMachine};
 use tera_objects::Objects;
@@ -41,9 +39,7 @@ impl<O: Objects> TeraOver<O> {
     {
         match parse(self.alloc, ONE_OFF, input, &self.delimiters) {
             Ok(output) => match allow(self.alloc, &output) {
-                Ok(()) => {
-                    self.render_output::<Brand>(&output, context, autoescape, Blank::new(1))
-                }
+                Ok(()) => self.render_output(&output, context, autoescape),
                 Err(error) => Err(error),
             },
             Err(error) => Err(error),
@@ -52,15 +48,13 @@ impl<O: Objects> TeraOver<O> {
 
     // The text that was read to this and stands beside the registry, rendered; an error where it calls or includes what is not there.
     // The subject is its own.
-    fn render_output<'s, L: Ledger>(
+    fn render_output<'s>(
         &'s self,
         output: &ParserOutput,
         context: &'s Context,
         autoescape: bool,
-        blank: Blank,
     ) -> TeraResult<String>
         ghost about: { Subject }
-        requires ledger { (blank.name ≡ L.name) × (blank.parts ≡ L.parts) × (L.parts ≡ 1) }
         requires subject { about
             ≡ subject_beside (registry_of O.engine self.now) (tree_of output.now)
             context.now autoescape }
@@ -83,7 +77,7 @@ impl<O: Objects> TeraOver<O> {
         let machine = alone.with_text(&text);
         let body = text.body();
         let scopes = self.scopes_for(body.chunk(), context)?;
-        self.run_within::<L>(&machine, body, scopes, blank)
+        self.run_within(&machine, body, scopes)
     }
 
     // The text of a template that was found, from the body of its root on: the file that its code names says of which. The
@@ -106,20 +100,18 @@ impl<O: Objects> TeraOver<O> {
         let autoescape = self.escapes(found);
         let machine = VirtualMachine::for_template(self.alloc, autoescape, found, &self.objects);
         let scopes = self.scopes_for(root.chunk(), context)?;
-        self.run_within::<Brand>(&machine, root, scopes, Blank::new(1))
+        self.run_within(&machine, root, scopes)
     }
 
     // The text that a block of a template had when it ended last, while all of the template was rendered. The subject is as above.
-    pub(crate) fn render_found_block<'t, L: Ledger>(
+    pub(crate) fn render_found_block<'t>(
         &self,
         found: FoundTemplate<'t>,
         root: Body<'t>,
         block: &Name,
         context: &Context,
-        blank: Blank,
     ) -> TeraResult<String>
         ghost about: { Subject }
-        requires ledger { (blank.name ≡ L.name) × (blank.parts ≡ L.parts) × (L.parts ≡ 1) }
         requires subject { about ≡ subject_of_file (registry_of O.engine self.now) found.name.now
             (code_of root).file context.now }
         requires linked { with_templates about.world.registry found.templates.now
@@ -132,8 +124,8 @@ impl<O: Objects> TeraOver<O> {
         let machine = VirtualMachine::for_template(self.alloc, autoescape, found, &self.objects);
         let scopes = self.scopes_for(root.chunk(), context)?;
         let mut configuration = Configuration::new(self.alloc, scopes);
-        let mut steps = Steps::<L>::new(blank);
-        machine.run_for_block::<L>(root, block, &mut configuration, &mut steps)
+        let mut steps = Steps::new();
+        machine.run_for_block(root, block, &mut configuration, &mut steps)
     }
 
     // The scopes of a body that reads this context: names that its code reads often are found without a search.
@@ -152,15 +144,13 @@ impl<O: Objects> TeraOver<O> {
     }
 
     // The text of a body that reads these scopes. The subject is the body's: it tells the machine what it means.
-    pub(crate) fn run_within<'t, L: Ledger>(
+    pub(crate) fn run_within<'t>(
         &self,
         machine: &VirtualMachine<'t, O>,
         body: Body<'t>,
         scopes: Scopes<'_>,
-        blank: Blank,
     ) -> TeraResult<String>
         ghost about: { Subject }
-        requires ledger { (blank.name ≡ L.name) × (blank.parts ≡ L.parts) × (L.parts ≡ 1) }
         requires registry { about.world.registry ≡ registry_of O.engine self.now }
         requires engine { engine_of O.engine machine.now ≡ about.world.registry.engine }
         requires linked { IsLinked machine.now about.world }
@@ -171,8 +161,8 @@ impl<O: Objects> TeraOver<O> {
         ensures { Gives string_bytes result (text_meant about) }
     {
         let mut configuration = Configuration::new(self.alloc, scopes);
-        let mut steps = Steps::<L>::new(blank);
-        match machine.run::<L>(body, &mut configuration, &mut steps) {
+        let mut steps = Steps::new();
+        match machine.run(body, &mut configuration, &mut steps) {
             Ok(()) => Ok(configuration.texts.into_string()),
             Err(error) => Err(error),
         }

@@ -8,8 +8,6 @@ ghost use Rattle.tera.specs.Rendering.{ByName, BlockByName, AppendsOneOf};
 use crate::engine::TeraOver;
 use crate::texts::ends_with_one_of;
 use std::collections::BTreeSet;
-use std::marker::Brand;
-use std::sync::ledger::Blank;
 use tera_objects::Objects;
 use tera_registry::FoundTemplate;
 use tera_values::{Context, Error, Name, TeraResult};
@@ -105,13 +103,7 @@ impl<O: Objects> TeraOver<O> {
             Some(found) => match found.definers(block).next() {
                 Some(_) => {
                     let wanted = Name::new(self.alloc, block)?;
-                    self.render_found_block::<Brand>(
-                        found,
-                        found.root(),
-                        &wanted,
-                        context,
-                        Blank::new(1),
-                    )
+                    self.render_found_block(found, found.root(), &wanted, context)
                 }
                 None => Err(Error::message(self.alloc, "no template has this block")),
             },

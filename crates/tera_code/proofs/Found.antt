@@ -16,7 +16,7 @@ use Rattle.tera_syntax_tree.specs.Tree as tree
 use Rattle.tera_syntax_tree.specs.View.{node_of, nodes_of}
 use Rattle.tera_syntax_tree.specs.Blocks.{blocks, node_blocks}
 use Rattle.tera_syntax_tree.proofs.Views.{view_block, view_capture, view_component_call, view_for, view_if, view_section}
-use Rattle.tera_code.specs.declared.blocks.Block.{Block}
+use Rattle.tera_code.specs.declared.blocks.BlockCode.{BlockCode}
 use Rattle.tera_code.specs.Listing.{Listing}
 use Rattle.tera_code.specs.Blocks.{block_of, block_listing, block_listings}
 use Rattle.tera_code.proofs.Written.{on_ok_by}
@@ -33,7 +33,7 @@ found_more f old mid some others whole e h =
     ∙ ap (λ x. old ++ map f x) (sym e)
 
 -- one is found
-pub found_block : (file : site.Name) (old mid : List Block) (block : Block) (body : site.Name × tree.Nodes) → mid ≡ old ++ block ∷ [] → block_of block ≡ block_listing file body → map block_of mid ≡ map block_of old ++ block_listings file (body ∷ [])
+pub found_block : (file : site.Name) (old mid : List BlockCode) (block : BlockCode) (body : site.Name × tree.Nodes) → mid ≡ old ++ block ∷ [] → block_of block ≡ block_listing file body → map block_of mid ≡ map block_of old ++ block_listings file (body ∷ [])
 found_block file old mid block body e h =
     ap (map block_of) e
     ∙ map-append block_of old (block ∷ [])

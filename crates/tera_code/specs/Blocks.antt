@@ -2,12 +2,12 @@
 use Rattle.std.specs.Prelude.{List, map}
 use Rattle.tera_errors.specs.Site as site
 use Rattle.tera_syntax_tree.specs.Tree.{Nodes}
-use Rattle.tera_code.specs.declared.blocks.Block.{Block}
+use Rattle.tera_code.specs.declared.blocks.BlockCode.{BlockCode}
 use Rattle.tera_code.specs.Listing.{Listing}
 use Rattle.tera_code.specs.Code.{listing_of}
 
 -- the name of the block, and its code
-abbrev pub block_of : Block → site.Name × Listing
+abbrev pub block_of : BlockCode → site.Name × Listing
 block_of b = (b.name, b.code)
 
 -- the code of a block in this template's text

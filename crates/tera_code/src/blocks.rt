@@ -12,14 +12,14 @@ use tera_values::Name;
 
 /// A block of a template: its name, and the code of its body.
 #[derive(Drop)]
-pub struct Block {
+pub struct BlockCode {
     pub name: Name,
     pub code: Chunk,
 }
 
 /// The blocks of the nodes, which stand in the text of the template of this name, in the order of the text; those inside
 /// others too.
-pub fn blocks(alloc: Global, file: &str, nodes: &[Node]) -> Result<Vec<Block>, AllocError>
+pub fn blocks(alloc: Global, file: &str, nodes: &[Node]) -> Result<Vec<BlockCode>, AllocError>
     ensures ok { IfOk result
         (λ v. map block_of v.items ≡ block_listings file.now (blocks (nodes_of nodes.now))) }
 {
@@ -34,7 +34,7 @@ fn add_all(
     alloc: Global,
     nodes: &[Node],
     file: &str,
-    found: &mut Vec<Block>,
+    found: &mut Vec<BlockCode>,
 ) -> Result<(), AllocError>
     ensures ok { OnOk result (map block_of found.new.items
         ≡ map block_of found.old.items ++ block_listings file.now (blocks (nodes_of nodes.now))) }
@@ -47,7 +47,7 @@ fn add_all(
 
 // Puts the blocks of the node behind those that were found.
 #[cycle(blocks)]
-fn add(alloc: Global, node: &Node, file: &str, found: &mut Vec<Block>) -> Result<(), AllocError>
+fn add(alloc: Global, node: &Node, file: &str, found: &mut Vec<BlockCode>) -> Result<(), AllocError>
     ensures { OnOk result (map block_of found.new.items
         ≡ map block_of found.old.items ++ block_listings file.now
         (node_blocks (node_of node.now))) }
@@ -77,13 +77,13 @@ fn put(
     body: &[Node],
     file: &str,
     name: &str,
-    found: &mut Vec<Block>,
+    found: &mut Vec<BlockCode>,
 ) -> Result<(), AllocError>
     ensures ok { OnOk result (map block_of found.new.items
         ≡ map block_of found.old.items
         ++ block_listings file.now ((name.now, nodes_of body.now) ∷ [])) }
 {
-    found.push(Block {
+    found.push(BlockCode {
         name: lacking(Name::new(alloc, name))?,
         code: compiled(alloc, file, body)?,
     })?;

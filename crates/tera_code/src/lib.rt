@@ -26,7 +26,7 @@ pub mod steps;
 pub mod target;
 mod unpack;
 
-pub use blocks::Block;
+pub use blocks::BlockCode;
 pub use call_kind::CallKind;
 pub use callee::Callee;
 pub use chunk::Chunk;

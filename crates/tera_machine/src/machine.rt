@@ -22,7 +22,6 @@ use crate::configuration::Configuration;
 use crate::wanted::Wanted;
 use std::alloc::Global;
 use std::marker::Brand;
-use std::sync::ledger::Ledger;
 use tera_code::Steps;
 use tera_objects::Objects;
 use tera_registry::{Body, FoundTemplate, TextTable};
@@ -151,11 +150,11 @@ impl<'t, O: Objects> VirtualMachine<'t, O> {
     }
 
     /// Runs the code of a body to its end, within eight instructions a visit of the body's meaning.
-    pub fn run<L: Ledger>(
+    pub fn run(
         &self,
         body: Body<'t>,
         configuration: &mut Configuration<'_>,
-        steps: &mut Steps<L>,
+        steps: &mut Steps,
     ) -> TeraResult<()>
         ghost about: { Subject }
         requires engine { engine_of O.engine self.now ≡ about.world.registry.engine }
@@ -164,6 +163,7 @@ impl<'t, O: Objects> VirtualMachine<'t, O> {
         requires place { place_of self.now (code_of body).file configuration.old ≡ about.place }
         requires code { (code_of body).code ≡ nodes_code about.tree 0 }
         requires own { (config_of configuration.old).loops ≡ [] }
+        ensures counted { steps.old ≤ steps.new }
         ensures few { steps.new ≤ steps.old + 8 * visits_of (meant_from about configuration.old) }
         ensures means { Means (meant_from about configuration.old)
             (config_of configuration.old) result (config_of configuration.new) }
@@ -171,16 +171,16 @@ impl<'t, O: Objects> VirtualMachine<'t, O> {
             ≡ around_of configuration.old.scopes) }
     {
         let mut blocks = OpenBlocks::new(self.alloc, Wanted::none());
-        self.run_counted::<Brand, L>(body, &mut blocks, configuration, steps)
+        self.run_counted::<Brand>(body, &mut blocks, configuration, steps)
     }
 
     /// The same, where no block ended before: the text of the block of this name as it ended last, or the empty text.
-    pub fn run_for_block<L: Ledger>(
+    pub fn run_for_block(
         &self,
         body: Body<'t>,
         block: &Name,
         configuration: &mut Configuration<'_>,
-        steps: &mut Steps<L>,
+        steps: &mut Steps,
     ) -> TeraResult<String>
         ghost about: { Subject }
         requires engine { engine_of O.engine self.now ≡ about.world.registry.engine }
@@ -190,13 +190,14 @@ impl<'t, O: Objects> VirtualMachine<'t, O> {
         requires code { (code_of body).code ≡ nodes_code about.tree 0 }
         requires own { (config_of configuration.old).loops ≡ [] }
         requires none { (config_of configuration.old).run.blocks ≡ [] }
+        ensures counted { steps.old ≤ steps.new }
         ensures few { steps.new ≤ steps.old + 8 * visits_of (meant_from about configuration.old) }
         ensures text { Gives string_bytes result
             (block_of block.now (meant_from about configuration.old)) }
     {
         let wanted = Wanted::block(block)?;
         let mut blocks = OpenBlocks::new(self.alloc, wanted);
-        match self.run_counted::<Brand, L>(body, &mut blocks, configuration, steps) {
+        match self.run_counted::<Brand>(body, &mut blocks, configuration, steps) {
             Ok(()) => {}
             Err(error) => return Err(error),
         }
@@ -211,12 +212,12 @@ impl<'t, O: Objects> VirtualMachine<'t, O> {
 
     // The same, in the machine's own terms, and where blocks may be open. The bodies that wait for those that they take lie in a
     // list, so the host's stack does not grow.
-    fn run_counted<M: Limit, L: Ledger>(
+    fn run_counted<M: Limit>(
         &self,
         first: Body<'t>,
         blocks: &mut OpenBlocks<'t>,
         configuration: &mut Configuration<'_>,
-        steps: &mut Steps<L>,
+        steps: &mut Steps,
     ) -> TeraResult<()>
         requires engine { engine_of O.engine self.now ≡ M.world.registry.engine }
         requires linked { IsLinked self.now M.world }

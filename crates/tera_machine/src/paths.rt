@@ -20,7 +20,6 @@ use crate::instructions::undefined_written;
 use crate::machine::{Flow, Going, VirtualMachine};
 use crate::texts::Texts;
 use std::alloc::Global;
-use std::sync::ledger::Ledger;
 use tera_code::{Chunk, Comparison, Steps};
 use tera_objects::Objects;
 use tera_operators::{LentOperand, Operand};
@@ -44,12 +43,12 @@ fn lent<'a>(found: &Found<'a>, span: Span) -> Option<LentOperand<'a>>
 
 /// Takes the attributes of an operand that the instructions behind a position take, each of what the one before gave. The position
 /// becomes that of the last of these instructions. That holds wherever the reading of the path began.
-fn attributes<'v, L: Ledger>(
+fn attributes<'v>(
     alloc: Global,
     chunk: &Chunk,
     at: &mut usize,
     reached: LentOperand<'v>,
-    steps: &mut Steps<L>,
+    steps: &mut Steps,
 ) -> TeraResult<LentOperand<'v>>
     requires few { length chunk.now.code < 2 ^ 64 }
     requires there { at.old < length chunk.now.code }
@@ -78,11 +77,11 @@ fn attributes<'v, L: Ledger>(
 /// Where it goes on if the instruction behind a position tests the topmost operand, which is this one. The position becomes that of this
 /// instruction.
 #[inline(always)]
-fn tested<'f, L: Ledger>(
+fn tested<'f>(
     chunk: &Chunk,
     at: &mut usize,
     top: &LentOperand<'_>,
-    steps: &mut Steps<L>,
+    steps: &mut Steps,
 ) -> Option<Flow<'f>>
     requires few { length chunk.now.code < 2 ^ 64 }
     requires there { at.old < length chunk.now.code }
@@ -151,14 +150,14 @@ impl<'c> Configuration<'c> {
     /// tests it, or those that compare it with a constant and test that. Nothing is copied or pushed on the way, and only what is
     /// not used up at once is put on the operands.
     #[inline(never)]
-    pub(crate) fn read<'f, O: Objects, L: Ledger>(
+    pub(crate) fn read<'f, O: Objects>(
         &mut self,
         machine: &VirtualMachine<'_, O>,
         chunk: &Chunk,
         at: &mut usize,
         name: &Name,
         span: Span,
-        steps: &mut Steps<L>,
+        steps: &mut Steps,
     ) -> Going<'f>
         requires there { slice_get chunk.now.code at.old
             ≡ Some (instruction.LoadName name.now span) }
@@ -197,13 +196,13 @@ impl<'c> Configuration<'c> {
     }
 
     /// The same with an operand of its own that was read.
-    fn use_up<'f, L: Ledger>(
+    fn use_up<'f>(
         &mut self,
         alloc: Global,
         chunk: &Chunk,
         at: &mut usize,
         operand: Operand,
-        steps: &mut Steps<L>,
+        steps: &mut Steps,
     ) -> Going<'f>
         requires few { length chunk.now.code < 2 ^ 64 }
         requires there { at.old < length chunk.now.code }
@@ -228,12 +227,12 @@ impl<'c> Configuration<'c> {
     /// Tests an operand where the instruction behind a position does so, and else puts it on top of the others. The position becomes that
     /// of the last instruction that is done.
     #[inline(always)]
-    fn test_or_put<'f, L: Ledger>(
+    fn test_or_put<'f>(
         &mut self,
         chunk: &Chunk,
         at: &mut usize,
         operand: Operand,
-        steps: &mut Steps<L>,
+        steps: &mut Steps,
     ) -> Going<'f>
         requires few { length chunk.now.code < 2 ^ 64 }
         requires there { at.old < length chunk.now.code }

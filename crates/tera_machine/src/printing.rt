@@ -21,7 +21,6 @@ use crate::configuration::Configuration;
 use crate::instructions::undefined_written;
 use crate::machine::{Flow, Going, VirtualMachine};
 use crate::texts::Texts;
-use std::sync::ledger::Ledger;
 use tera_code::{Chunk, LentInstruction, Steps};
 use tera_objects::Objects;
 use tera_values::{Shape, TeraResult, Value};
@@ -72,7 +71,7 @@ fn put_part<O: Objects>(
 
 /// Puts out the parts from a position to the end of the body. At a fault `at` becomes the position of the part that is at fault.
 #[inline(always)]
-fn put_parts<O: Objects, L: Ledger>(
+fn put_parts<O: Objects>(
     texts: &mut Texts,
     machine: &VirtualMachine<'_, O>,
     chunk: &Chunk,
@@ -80,7 +79,7 @@ fn put_parts<O: Objects, L: Ledger>(
     end: usize,
     item: &Value,
     at: &mut usize,
-    steps: &mut Steps<L>,
+    steps: &mut Steps,
 ) -> TeraResult<()>
     requires few { length chunk.now.code < 2 ^ 64 }
     requires size { start ≤ end }
@@ -117,7 +116,7 @@ fn put_parts<O: Objects, L: Ledger>(
 
 /// Does the turns of these items, each from the start of the body to its end.
 #[inline(always)]
-fn put_turns<O: Objects, L: Ledger>(
+fn put_turns<O: Objects>(
     texts: &mut Texts,
     machine: &VirtualMachine<'_, O>,
     chunk: &Chunk,
@@ -125,7 +124,7 @@ fn put_turns<O: Objects, L: Ledger>(
     size: usize,
     items: &[Value],
     at: &mut usize,
-    steps: &mut Steps<L>,
+    steps: &mut Steps,
 ) -> TeraResult<()>
     requires few { length chunk.now.code < 2 ^ 64 }
     requires within { start + size < length chunk.now.code }
@@ -162,7 +161,7 @@ fn put_turns<O: Objects, L: Ledger>(
 /// Does the loop over these items that the instruction at a position opens, up to its end. The position becomes that of the last of
 /// its instructions.
 #[inline(never)]
-fn put_loop<'f, O: Objects, L: Ledger>(
+fn put_loop<'f, O: Objects>(
     texts: &mut Texts,
     machine: &VirtualMachine<'_, O>,
     chunk: &Chunk,
@@ -170,7 +169,7 @@ fn put_loop<'f, O: Objects, L: Ledger>(
     size: usize,
     items: &[Value],
     at: &mut usize,
-    steps: &mut Steps<L>,
+    steps: &mut Steps,
 ) -> Going<'f>
     requires there { slice_get chunk.now.code at.old ≡ Some opening.now }
     requires few { length chunk.now.code < 2 ^ 64 }
@@ -209,13 +208,13 @@ fn put_loop<'f, O: Objects, L: Ledger>(
 impl<'c> Configuration<'c> {
     /// Does what the instruction says, and where it opens a loop whose body puts out texts and items alone, all of that loop.
     #[inline(never)]
-    pub(crate) fn start_or_execute<'f, O: Objects, L: Ledger>(
+    pub(crate) fn start_or_execute<'f, O: Objects>(
         &mut self,
         machine: &VirtualMachine<'_, O>,
         chunk: &Chunk,
         at: &mut usize,
         opening: &LentInstruction<'f>,
-        steps: &mut Steps<L>,
+        steps: &mut Steps,
     ) -> Going<'f>
         requires there { slice_get chunk.now.code at.old ≡ Some opening.now }
         requires few { length chunk.now.code < 2 ^ 64 }

@@ -15,7 +15,6 @@ use crate::configuration::Configuration;
 use crate::instructions::{Put, going_on, going_on_if};
 use crate::machine::{Flow, Going, VirtualMachine};
 use std::alloc::{AllocError, Global};
-use std::sync::ledger::Ledger;
 use tera_code::{Chunk, LentInstruction, Steps};
 use tera_objects::Objects;
 use tera_operators::Operand;
@@ -27,13 +26,13 @@ impl<'c> Configuration<'c> {
     /// them. What is run most is told apart first, and needs no more of the instruction than its parts: all else stays out of the
     /// loop, whose frame is small.
     #[inline(always)]
-    pub(crate) fn perform<'f, O: Objects, L: Ledger>(
+    pub(crate) fn perform<'f, O: Objects>(
         &mut self,
         machine: &VirtualMachine<'_, O>,
         chunk: &Chunk,
         at: &mut usize,
         instruction: &LentInstruction<'f>,
-        steps: &mut Steps<L>,
+        steps: &mut Steps,
     ) -> Going<'f>
         requires there { slice_get chunk.now.code at.old ≡ Some instruction.now }
         requires few { length chunk.now.code < 2 ^ 64 }
@@ -70,13 +69,13 @@ impl<'c> Configuration<'c> {
     // The rest of these, whose flow is handed out in memory. It is asked for behind the others, so that no place for it is
     // made ready in their turns.
     #[inline(always)]
-    fn perform_on<'f, O: Objects, L: Ledger>(
+    fn perform_on<'f, O: Objects>(
         &mut self,
         machine: &VirtualMachine<'_, O>,
         chunk: &Chunk,
         at: &mut usize,
         instruction: &LentInstruction<'f>,
-        steps: &mut Steps<L>,
+        steps: &mut Steps,
     ) -> Going<'f>
         requires there { slice_get chunk.now.code at.old ≡ Some instruction.now }
         requires few { length chunk.now.code < 2 ^ 64 }
@@ -100,13 +99,13 @@ impl<'c> Configuration<'c> {
 
     /// The same for an instruction that loads no name.
     #[inline(always)]
-    fn step<'f, O: Objects, L: Ledger>(
+    fn step<'f, O: Objects>(
         &mut self,
         machine: &VirtualMachine<'_, O>,
         chunk: &Chunk,
         at: &mut usize,
         instruction: &LentInstruction<'f>,
-        steps: &mut Steps<L>,
+        steps: &mut Steps,
     ) -> Going<'f>
         requires there { slice_get chunk.now.code at.old ≡ Some instruction.now }
         requires few { length chunk.now.code < 2 ^ 64 }

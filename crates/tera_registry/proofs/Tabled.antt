@@ -8,7 +8,7 @@ use Rattle.tera_syntax_tree.specs.Blocks.{blocks}
 use Rattle.tera_code.specs.Listing.{Listing}
 use Rattle.tera_code.specs.Code.{listing_of}
 use Rattle.tera_code.specs.Blocks.{block_listings, block_of}
-use Rattle.tera_code.specs.declared.blocks.Block.{Block}
+use Rattle.tera_code.specs.declared.blocks.BlockCode.{BlockCode}
 use Rattle.tera_meaning.specs.Registry.{Entry, Registry}
 use Rattle.tera_meaning.specs.Resolve.{root}
 use Rattle.tera_registry.specs.declared.code.TemplateBlock.{TemplateBlock}
@@ -186,6 +186,6 @@ module _ (es : List Entry) (starts : List ℕ) (many : ℕ) (a : AreStarts es st
       a.those i n (slice_get-get_or starts i d (omega (arith, a.as_many)) ∙ ap Some (sym is))
 
 -- one block more is kept
-pub one-kept : (old new : List TemplateBlock) (b : Block) (left rest : List Block) (all : List (Name × Listing)) → map kept_block new ≡ map kept_block old ++ block_of b ∷ [] → left ≡ b ∷ rest → map kept_block old ++ map block_of left ≡ all → map kept_block new ++ map block_of rest ≡ all
+pub one-kept : (old new : List TemplateBlock) (b : BlockCode) (left rest : List BlockCode) (all : List (Name × Listing)) → map kept_block new ≡ map kept_block old ++ block_of b ∷ [] → left ≡ b ∷ rest → map kept_block old ++ map block_of left ≡ all → map kept_block new ++ map block_of rest ≡ all
 one-kept old new b left rest all e f g =
     ap (λ l. l ++ map block_of rest) e ∙ append_assoc (map kept_block old) (block_of b ∷ []) (map block_of rest) ∙ ap (λ l. map kept_block old ++ map block_of l) (sym f) ∙ g

@@ -24,7 +24,7 @@ use crate::template::Template;
 use std::alloc::{AllocError, Global};
 use std::rc::Rc;
 use tera_code::blocks::blocks;
-use tera_code::{Block, compiled};
+use tera_code::{BlockCode, compiled};
 use tera_errors::TeraResult;
 use tera_syntax::parse;
 use tera_syntax_tree::{Delimiters, ParserOutput, Quoted};
@@ -141,7 +141,7 @@ fn code_of(alloc: Global, name: &str, output: &ParserOutput) -> TeraResult<Templ
 }
 
 /// The blocks as they are kept.
-fn kept_blocks(alloc: Global, blocks: Vec<Block>) -> TeraResult<Vec<TemplateBlock>>
+fn kept_blocks(alloc: Global, blocks: Vec<BlockCode>) -> TeraResult<Vec<TemplateBlock>>
     ensures ok { IfOk result (λ v. map kept_block v.items ≡ map block_of blocks.items) }
     ensures lacks { IfErr result Lacks }
 {
@@ -153,12 +153,12 @@ fn kept_blocks(alloc: Global, blocks: Vec<Block>) -> TeraResult<Vec<TemplateBloc
 }
 
 /// Puts the block behind those that are kept.
-fn keep(alloc: Global, block: Block, kept: &mut Vec<TemplateBlock>) -> TeraResult<()>
+fn keep(alloc: Global, block: BlockCode, kept: &mut Vec<TemplateBlock>) -> TeraResult<()>
     ensures ok { OnOk result
         (map kept_block kept.new.items ≡ map kept_block kept.old.items ++ block_of block ∷ []) }
     ensures lacks { IfErr result Lacks }
 {
-    let Block { name, code } = block;
+    let BlockCode { name, code } = block;
     let code = Code::new(alloc, code)?;
     kept.push(TemplateBlock { name, code })?;
     Ok(())

@@ -3,9 +3,10 @@ use super::cases::is_text;
 use crate::own::{Holding, LacksMemory, saying};
 use std::alloc::Global;
 use tera::{
-    ArgFromValue, CallerObjects, Chunk, Compiler, Context, Delimiters, ErrorKind, Key, Kwargs, Map,
-    ParserOutput, State, StoredFilter, StoredFunction, StringInput, Template, Tera, TeraResult,
-    Value, ValueKind, VirtualMachine, escape_html, number, parse,
+    ArgFromValue, CallerObjects, Chunk, Compiler, Context, Delimiters, ErrorKind, ForLoop,
+    Instruction, Key, Kwargs, Map, Name, ParserOutput, State, Steps, StoredFilter, StoredFunction,
+    StringInput, Template, Tera, TeraResult, Value, ValueKind, VirtualMachine, escape_html, number,
+    parse,
 };
 
 /// What the value is told to be, and what it is read as.
@@ -83,6 +84,53 @@ fn is_true(answer: TeraResult<bool>) -> bool {
 #[test]
 fn texts_are_made(rt: HostRuntime) {
     assert!(rt; is_true(are_made(rt.alloc())));
+}
+
+/// `{"a": [1, 2, 3], "b": none}`.
+fn nested(alloc: Global) -> TeraResult<Value> {
+    let mut items = Vec::new(alloc);
+    items.push(Value::from_int(1))?;
+    items.push(Value::from_int(2))?;
+    items.push(Value::from_int(3))?;
+    let mut map = Map::new(alloc);
+    map.insert(
+        Key::Text(String::from_str(alloc, "a")?),
+        Value::array(items),
+    )?;
+    map.insert(Key::Text(String::from_str(alloc, "b")?), Value::none())?;
+    Ok(Value::map(map))
+}
+
+/// What the array answers, in which 1, 2 and 3 stand.
+fn is_walked(alloc: Global, items: &Value) -> TeraResult<bool> {
+    let last = items.get_item(alloc, &Value::from_int(-1))?;
+    let two = items.slice(alloc, None, Some(2), None)?;
+    let turned = items.reverse(alloc)?;
+    Ok(
+        last.as_i128() == Some(3)
+            && two.len() == Some(2)
+            && *items < turned
+            && items.contains(alloc, &last)?,
+    )
+}
+
+fn is_found(alloc: Global, value: &Value) -> TeraResult<bool> {
+    match (value.get_attr("a"), value.get_from_path("a.1")) {
+        (Some(items), Some(two)) => {
+            Ok(matches!(two.as_key(alloc)?, Key::Int(2)) && is_walked(alloc, items)?)
+        }
+        _ => Ok(false),
+    }
+}
+
+fn is_nested(alloc: Global) -> TeraResult<bool> {
+    let value = nested(alloc)?;
+    is_found(alloc, &value)
+}
+
+#[test]
+fn values_are_found_in_others(rt: HostRuntime) {
+    assert!(rt; is_true(is_nested(rt.alloc())));
 }
 
 /// A map with `true` at `true`.
@@ -168,10 +216,41 @@ fn states_tell_of_a_context(rt: HostRuntime) {
     assert!(rt; is_true(is_told(rt.alloc())));
 }
 
-/// Whether the code is one instruction of this file, which calls and takes nothing.
-fn is_plain(chunk: &Chunk) -> bool {
-    let (callee, target) = (chunk.callee_at(0), chunk.target_at(0));
-    chunk.len() == 1 && chunk.file() == "t" && callee.is_none() && target.is_none()
+/// Whether the loop goes over three items.
+fn goes_over_three(opened: &ForLoop) -> bool {
+    let mut items = opened.items();
+    items.next().is_some()
+        && items.next().is_some()
+        && items.next().is_some()
+        && items.next().is_none()
+}
+
+fn is_looped(alloc: Global) -> TeraResult<bool> {
+    let name = Name::new(alloc, "c")?;
+    let letters = ForLoop::new(alloc, name, None, Value::string(alloc, "abc")?)?;
+    let name = Name::new(alloc, "c")?;
+    let none = ForLoop::new_comprehension(alloc, name, None, Value::string(alloc, "")?)?;
+    match letters {
+        Some(letters) => Ok(none.is_none() && goes_over_three(&letters)),
+        None => Ok(false),
+    }
+}
+
+#[test]
+fn loops_go_over_letters(rt: HostRuntime) {
+    assert!(rt; is_true(is_looped(rt.alloc())));
+}
+
+/// Whether the code is one instruction that puts out a text.
+fn puts_out(chunk: &Chunk) -> bool {
+    let mut steps = Steps::new();
+    match chunk.get(0, &mut steps) {
+        Some(instruction) => {
+            matches!(instruction.unpack(), Instruction::WriteText(_))
+                && chunk.get(1, &mut steps).is_none()
+        }
+        None => false,
+    }
 }
 
 fn is_compiled(alloc: Global, output: &ParserOutput<'_>) -> TeraResult<bool> {
@@ -182,7 +261,7 @@ fn is_compiled(alloc: Global, output: &ParserOutput<'_>) -> TeraResult<bool> {
         Some(node) => again.compile_node(node)?,
         None => return Ok(false),
     }
-    Ok(is_plain(&compiler.into_chunk()) && is_plain(&again.into_chunk()))
+    Ok(puts_out(&compiler.into_chunk()) && puts_out(&again.into_chunk()))
 }
 
 fn is_parsed(alloc: Global) -> TeraResult<bool> {

@@ -4,6 +4,3 @@ use Rattle.tera.proofs.engine.TeraOver.read_and_render.Given as goal
 
 abbrev pub ghost-render_output : goal.ghost-render_output
 ghost-render_output g a = subject_beside (registry_of g.O.Objects.engine a.self.now) (tree_of a.output.now) a.context.now a.autoescape
-
-abbrev pub ghosts-render_output : goal.ghosts-render_output
-ghosts-render_output g a = record { name = a.blank.name; parts = a.blank.parts }

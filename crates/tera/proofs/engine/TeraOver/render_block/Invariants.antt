@@ -5,6 +5,3 @@ use Rattle.tera.proofs.engine.TeraOver.render_block.Given as goal
 abbrev pub ghost-render_found_block : goal.ghost-render_found_block
 ghost-render_found_block g a =
     subject_of_file (registry_of g.O.Objects.engine a.self.now) a.found.name.now (code_of a.root).file a.context.now
-
-abbrev pub ghosts-render_found_block : goal.ghosts-render_found_block
-ghosts-render_found_block g a = record { name = a.blank.name; parts = a.blank.parts }

@@ -7,6 +7,3 @@ abbrev pub ghost-run_component : goal.ghost-run_component
 ghost-run_component g a =
     let r = registry_of g.O.Objects.engine a.self.now in
     subject_of_component r (component r a.found.definition.now.name) (around_of a.scopes) a.autoescape
-
-abbrev pub ghosts-run_component : goal.ghosts-run_component
-ghosts-run_component g a = record { name = a.blank.name; parts = a.blank.parts }

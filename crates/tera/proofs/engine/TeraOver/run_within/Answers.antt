@@ -15,5 +15,5 @@ into_string-requires g c =
 pub returns-in-Err : goal.returns-in-Err
 returns-in-Err g c =
     let start = c.new-configuration in
-    let same = begins-means g.about start.result (variables_of c.args.scopes) start.ensures.starts c.requires.1.1.1.1.1.1.1.1.0 in
+    let same = begins-means g.about start.result (variables_of c.args.scopes) start.ensures.starts c.requires.1.1.1.1.1.1.0 in
     fault-means (meant g.about (begun nothing_set)) c.in-Err.error _ _ (rw same at c.in-Err.ensures.means)

@@ -149,8 +149,9 @@ pub record BodyEnds (w : World) (p : Place) (q : Request) (u : Use) (c : Config)
   pub depth : ℕ
   pub is : body_by w (exec w depth) p q u c ≡ o
 
--- the code ended as the machine does, unless memory was refused
-abbrev pub Ran : World → Place → Code → Config → Result (Unit {0}) SeenError → Config → ℕ → Type 0
-Ran w p code c (Ok u) c' k = Ends w p code 0 c (Finished c' k)
+-- the code ended as the machine does, after so many instructions, unless memory was refused
+abbrev pub Ran : {A : Type 0} → World → Place → Code → Config → Result A SeenError → Config →
+    ℕ → Type 0
+Ran w p code c (Ok a) c' k = Ends w p code 0 c (Finished c' k)
 Ran w p code c (Err None) c' k = Unit {0}
 Ran w p code c (Err (Some f)) c' k = Ends w p code 0 c (Broken f k)

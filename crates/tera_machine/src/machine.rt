@@ -149,7 +149,7 @@ impl<'t, O: Objects> VirtualMachine<'t, O> {
         }
     }
 
-    /// Runs the code of a body to its end, within eight instructions a visit of the body's meaning.
+    /// Runs the code of a body to its end, and counts each instruction that it takes: at most eight a visit of the body's meaning.
     pub fn run(
         &self,
         body: Body<'t>,
@@ -164,6 +164,9 @@ impl<'t, O: Objects> VirtualMachine<'t, O> {
         requires code { (code_of body).code ≡ nodes_code about.tree 0 }
         requires own { (config_of configuration.old).loops ≡ [] }
         ensures counted { steps.old ≤ steps.new }
+        ensures exact { Ran about.world about.place (code_of body).code
+            (config_of configuration.old) result (config_of configuration.new)
+            (steps.new - steps.old) }
         ensures few { steps.new ≤ steps.old + 8 * visits_of (meant_from about configuration.old) }
         ensures means { Means (meant_from about configuration.old)
             (config_of configuration.old) result (config_of configuration.new) }
@@ -191,6 +194,9 @@ impl<'t, O: Objects> VirtualMachine<'t, O> {
         requires own { (config_of configuration.old).loops ≡ [] }
         requires none { (config_of configuration.old).run.blocks ≡ [] }
         ensures counted { steps.old ≤ steps.new }
+        ensures exact { Ran about.world about.place (code_of body).code
+            (config_of configuration.old) result (config_of configuration.new)
+            (steps.new - steps.old) }
         ensures few { steps.new ≤ steps.old + 8 * visits_of (meant_from about configuration.old) }
         ensures text { Gives string_bytes result
             (block_of block.now (meant_from about configuration.old)) }

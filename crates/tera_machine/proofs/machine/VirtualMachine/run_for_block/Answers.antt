@@ -1,12 +1,13 @@
-use Rattle.std.proofs.Common.{◌++◌, Ok, Err, ap, ◌∙◌, sym, subst}
+use Rattle.std.proofs.Common.{◌++◌, ◌-◌, Ok, Err, ap, ◌∙◌, sym, subst}
 use Rattle.tera_registry.specs.HandedOut.{code_of}
 use Rattle.tera_machine.specs.Config.{config_of}
+use Rattle.tera_machine.specs.Exec.{Ran}
 use Rattle.tera_machine.specs.Wanted.{noted_name, text_kept}
 use Rattle.tera_registry.specs.declared.templates.FoundTemplate.{FoundTemplate}
 use Rattle.tera_machine.specs.declared.blocks.OpenBlock.{OpenBlock}
 use Rattle.tera_machine.specs.OpenThings.{Nested}
 use Rattle.tera_machine.specs.Subject.{AreFrom, AreNumbered, template_of}
-use Rattle.tera_machine.proofs.Conclusions.{can_run, gave_meant}
+use Rattle.tera_machine.proofs.Conclusions.{can_run, gave_meant, fault_ran}
 use Rattle.tera_machine.proofs.Noting.{kept_is, gives_block, fails_block}
 use Rattle.tera_machine.proofs.Took.{place_none}
 use Rattle.tera_machine.proofs.machine.VirtualMachine.run_for_block.Goals as goal
@@ -18,9 +19,17 @@ pub run_counted-requires-clause-within : goal.run_counted-requires-clause-within
 run_counted-requires-clause-within g c =
     can_run g.about.world g.about.tree (place_none c.args.self.now (code_of c.args.body).file c.new-blocks.result c.args.configuration.now c.new-blocks.ensures.opened c.new-blocks.ensures.above c.new-blocks.ensures.included ∙ c.requires.1.1.1.1.0) c.requires.1.1.1.1.1.0 (config_of c.args.configuration.now) c.requires.1.1.1.1.1.1.0 c.args.steps.now
 
+pub returns-in-Err-clause-exact : goal.returns-in-Err-clause-exact
+returns-in-Err-clause-exact g c =
+    fault_ran g.about.world g.about.place (code_of c.args.body).code (config_of c.args.configuration.now) c.in-Err.error (config_of c.run_counted.new.configuration) (c.run_counted.new.steps - c.args.steps.now) (subst (λ p. Ran {Unit {0}} g.about.world p (code_of c.args.body).code (config_of c.args.configuration.now) (Err c.in-Err.error) (config_of c.run_counted.new.configuration) (c.run_counted.new.steps - c.args.steps.now)) (place_none c.args.self.now (code_of c.args.body).file c.new-blocks.result c.args.configuration.now c.new-blocks.ensures.opened c.new-blocks.ensures.above c.new-blocks.ensures.included ∙ c.requires.1.1.1.1.0) c.in-Err.ensures.ends)
+
 pub returns-in-Err-clause-text : goal.returns-in-Err-clause-text
 returns-in-Err-clause-text g c =
     fails_block c.args.block.now _ (config_of c.args.configuration.now) (config_of c.run_counted.new.configuration) c.in-Err.error (gave_meant g.about.world g.about.tree (place_none c.args.self.now (code_of c.args.body).file c.new-blocks.result c.args.configuration.now c.new-blocks.ensures.opened c.new-blocks.ensures.above c.new-blocks.ensures.included ∙ c.requires.1.1.1.1.0) c.requires.1.1.1.1.1.0 (config_of c.args.configuration.now) c.requires.1.1.1.1.1.1.0 (Err c.in-Err.error) _ _ c.in-Err.ensures.ends)
+
+pub returns-clause-exact : goal.returns-clause-exact
+returns-clause-exact g c =
+    subst (λ p. Ran {Unit {0}} g.about.world p (code_of c.args.body).code (config_of c.args.configuration.now) (Ok tt) (config_of c.run_counted.new.configuration) (c.run_counted.new.steps - c.args.steps.now)) (place_none c.args.self.now (code_of c.args.body).file c.new-blocks.result c.args.configuration.now c.new-blocks.ensures.opened c.new-blocks.ensures.above c.new-blocks.ensures.included ∙ c.requires.1.1.1.1.0) c.in-Ok.ensures.ends
 
 pub returns-clause-text : goal.returns-clause-text
 returns-clause-text g c =

@@ -3,7 +3,7 @@ ghost use Rattle.std.specs.Prelude.{◌≡◌};
 ghost use Rattle.tera_errors.specs.Prelude.{Gives};
 ghost use Rattle.tera_values.specs.Prelude.{plain};
 ghost use Rattle.tera_built_ins.specs.Escaping.{escaping_of};
-ghost use Rattle.tera_built_ins.specs.Filters.{filter_named, filter_of, filtered_in};
+ghost use Rattle.tera_built_ins.specs.Filters.{filter_named, filter_of};
 
 use crate::escaping::{EscapeFn, Escaping, Filtering};
 use crate::markup::Markup;
@@ -12,7 +12,7 @@ use crate::{
     sorting, split, trims, truncate, words,
 };
 use std::alloc::Global;
-use tera_values::{Error, Kwargs, TeraResult, Value};
+use tera_values::{Kwargs, TeraResult, Value};
 
 /// A filter that every engine has.
 #[derive(Clone, Copy)]
@@ -140,23 +140,6 @@ impl BuiltInFilter {
             BuiltInFilter::Pairs => maps::pairs(alloc, value),
             BuiltInFilter::Get => maps::get(alloc, value, arguments),
             BuiltInFilter::GroupBy => groups::group_by(alloc, value, arguments),
-        }
-    }
-
-    /// What the filter of this name makes of the value, with its own faults; a `Message` where there is none.
-    pub fn call_named<E: EscapeFn>(
-        alloc: Global,
-        name: &str,
-        value: &Value,
-        arguments: &Kwargs,
-        escaping: Escaping<'_, E>,
-    ) -> TeraResult<Value>
-        ensures { Gives (λ v. v) result (filtered_in plain (escaping_of E.escaped escaping.entry)
-            name.now value.now arguments.now) }
-    {
-        match BuiltInFilter::named(name) {
-            Some(filter) => filter.call(alloc, value, arguments, escaping),
-            None => Err(Error::message(alloc, "there is no such filter")),
         }
     }
 }

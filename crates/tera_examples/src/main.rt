@@ -4,7 +4,7 @@
 //!
 //! A name with the word `large` behind it is that of a script whose run takes more than the 65,536 bytes that `scarce_memory` deals
 //! out: it is run with all memory alone. All scripts are run so first, since the stack can't grow any more where memory is taken:
-//! what they need of it is there by then.
+//! what they need of it is there by then, and more, since they are run some calls further down than later on.
 #![tactic(auto)]
 
 mod commands;
@@ -23,6 +23,22 @@ fn tell(rt: &HostRuntime, example: &Example) -> io::Result<()> {
         println!(rt; "{name}: as expected")
     } else {
         println!(rt; "{name}: other replies than expected")
+    }
+}
+
+/// How many calls further down scripts are run first.
+const CALLS: usize = 256;
+
+// Tells of the example from so many calls further down. Each of them holds a text, and so a place on the stack.
+fn tell_below(rt: &HostRuntime, example: &Example, calls: usize) -> io::Result<()> {
+    match calls.checked_sub(1) {
+        None => tell(rt, example),
+        Some(fewer) => {
+            let name = String::from_str(rt.alloc(), example.name.as_str())?;
+            let told = tell_below(rt, example, fewer);
+            drop(name);
+            told
+        }
     }
 }
 
@@ -52,7 +68,7 @@ fn main(rt: HostRuntime) -> io::Result<()> {
     let mut examples = Vec::new(rt.alloc());
     for line in rt.lines(rt.alloc()) {
         let example = example_of(rt.alloc(), line?.as_str())?;
-        tell(&rt, &example)?;
+        tell_below(&rt, &example, CALLS)?;
         examples.push(example)?;
     }
     // Taking all memory needs half a second, so it is done once for all of them.

@@ -29,7 +29,6 @@ mod objects_around;
 mod objects_moved;
 mod other_delimiters;
 mod previews;
-mod public_names;
 mod refused_objects;
 mod refused_renderings;
 mod refused_runs;

@@ -153,7 +153,7 @@ module _ {most : ℕ} {w : World} {place : Place} {code : Code} {c0 : Config} wh
         at_request {c2} {f2 = f2} q u did is asks =
             record { progress = g; is = e; count = m; did = at_place did f2 is ∙ ap (Goes c2) asks }
 
-        pub effect_failed : (r : SeenError) (c2 : Config) → Effected (effect here (ip + 1) i c) (Err r) c2 → Ran {Unit {0}} w place code c0 (Err r) c2 (n2 - n0)
+        pub effect_failed : (r : SeenError) (c2 : Config) → Effected (effect here (ip + 1) i c) (Err r) c2 → Ran {A = Unit {0}} w place code c0 (Err r) c2 (n2 - n0)
         effect_failed None c2 a = tt
         effect_failed (Some f) c2 a =
             let at_least = g.counted in

@@ -1,4 +1,6 @@
-// The laws of the crates beneath, for the proofs of callers. Nothing here runs.
+// The laws on pages, and those of the crates beneath, for the proofs of callers. Nothing here runs.
+pub mod pages;
+
 pub use tera_built_ins::laws as built_ins;
 pub use tera_code::laws as code;
 pub use tera_marks::laws as marks;

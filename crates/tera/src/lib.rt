@@ -4,7 +4,6 @@
 pub mod components;
 pub mod engine;
 pub mod laws;
-pub mod page_laws;
 pub mod registering;
 mod rendering;
 pub mod templates;

@@ -1,5 +1,5 @@
 use Rattle.tera.proofs.FixedText.{markup_is_the_texts}
-use Rattle.tera.proofs.page_laws.markup_is_the_texts.Goals as goal
+use Rattle.tera.proofs.laws.pages.markup_is_the_texts.Goals as goal
 
 pub returns : goal.returns
 returns c = markup_is_the_texts

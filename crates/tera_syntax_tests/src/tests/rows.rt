@@ -450,7 +450,7 @@ pub static OTHERS: [Other; 3] = [
         "#>",
         Row(
             " <# a #> <%- extends \"b\" -%> {% extends 'c' %}",
-            "<b>({% extends 'c' %} 29-46)",
+            "<b>(  0-1)({% extends 'c' %} 29-46)",
         ),
     ),
 ];

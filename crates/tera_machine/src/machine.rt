@@ -164,7 +164,7 @@ impl<'t, O: Objects> VirtualMachine<'t, O> {
         requires code { (code_of body).code ≡ nodes_code about.tree 0 }
         requires own { (config_of configuration.old).loops ≡ [] }
         ensures counted { steps.old ≤ steps.new }
-        ensures exact { Ran about.world about.place (code_of body).code
+        ensures exact { Ran about.world about.place (code_of body.entry).code
             (config_of configuration.old) result (config_of configuration.new)
             (steps.new - steps.old) }
         ensures few { steps.new ≤ steps.old + 8 * visits_of (meant_from about configuration.old) }
@@ -194,7 +194,7 @@ impl<'t, O: Objects> VirtualMachine<'t, O> {
         requires own { (config_of configuration.old).loops ≡ [] }
         requires none { (config_of configuration.old).run.blocks ≡ [] }
         ensures counted { steps.old ≤ steps.new }
-        ensures exact { Ran about.world about.place (code_of body).code
+        ensures exact { Ran about.world about.place (code_of body.entry).code
             (config_of configuration.old) result (config_of configuration.new)
             (steps.new - steps.old) }
         ensures few { steps.new ≤ steps.old + 8 * visits_of (meant_from about configuration.old) }

@@ -123,6 +123,6 @@ module _ (w : World) {place place2 : Place} {code : Code} (tree : Nodes) (same :
       means w place2 (nodes_code tree 0) c _ (concludes w place2 (all_below w place2) tree c own) result c2 k (subst (λ x. Ran w place2 x c result c2 k) is (subst (λ p. Ran w p code c result c2 k) same ran))
 
 -- a fault is that of a run of any answer
-pub fault_ran : {A : Type 0} (w : World) (p : Place) (code : Code) (c : Config) (e : SeenError) (c2 : Config) (k : ℕ) → Ran {A = Unit {0}} w p code c (Err e) c2 k → Ran {A = A} w p code c (Err e) c2 k
-fault_ran w p code c None c2 k ran = tt
-fault_ran w p code c (Some f) c2 k ran = ran
+pub fault_ran : (A : Type 0) (w : World) (p : Place) (code : Code) (c : Config) (e : SeenError) (c2 : Config) (k : ℕ) → Ran {A = Unit {0}} w p code c (Err e) c2 k → Ran {A = A} w p code c (Err e) c2 k
+fault_ran A w p code c None c2 k ran = tt
+fault_ran A w p code c (Some f) c2 k ran = ran

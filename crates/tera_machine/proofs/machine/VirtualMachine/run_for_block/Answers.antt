@@ -1,4 +1,4 @@
-use Rattle.std.proofs.Common.{◌++◌, ◌-◌, Ok, Err, ap, ◌∙◌, sym, subst}
+use Rattle.std.proofs.Common.{◌++◌, ◌-◌, Global, Ok, Err, String, ap, ◌∙◌, sym, subst}
 use Rattle.tera_registry.specs.HandedOut.{code_of}
 use Rattle.tera_machine.specs.Config.{config_of}
 use Rattle.tera_machine.specs.Exec.{Ran}
@@ -21,7 +21,7 @@ run_counted-requires-clause-within g c =
 
 pub returns-in-Err-clause-exact : goal.returns-in-Err-clause-exact
 returns-in-Err-clause-exact g c =
-    fault_ran _ g.about.world g.about.place (code_of c.args.body).code (config_of c.args.configuration.now) c.in-Err.error (config_of c.run_counted.new.configuration) (c.run_counted.new.steps - c.args.steps.now) (subst (λ p. Ran {A = Unit {0}} g.about.world p (code_of c.args.body).code (config_of c.args.configuration.now) (Err c.in-Err.error) (config_of c.run_counted.new.configuration) (c.run_counted.new.steps - c.args.steps.now)) (place_none c.args.self.now (code_of c.args.body).file c.new-blocks.result c.args.configuration.now c.new-blocks.ensures.opened c.new-blocks.ensures.above c.new-blocks.ensures.included ∙ c.requires.1.1.1.1.0) c.in-Err.ensures.ends)
+    fault_ran (String Global) g.about.world g.about.place (code_of c.args.body).code (config_of c.args.configuration.now) c.in-Err.error (config_of c.run_counted.new.configuration) (c.run_counted.new.steps - c.args.steps.now) (subst (λ p. Ran {A = Unit {0}} g.about.world p (code_of c.args.body).code (config_of c.args.configuration.now) (Err c.in-Err.error) (config_of c.run_counted.new.configuration) (c.run_counted.new.steps - c.args.steps.now)) (place_none c.args.self.now (code_of c.args.body).file c.new-blocks.result c.args.configuration.now c.new-blocks.ensures.opened c.new-blocks.ensures.above c.new-blocks.ensures.included ∙ c.requires.1.1.1.1.0) c.in-Err.ensures.ends)
 
 pub returns-in-Err-clause-text : goal.returns-in-Err-clause-text
 returns-in-Err-clause-text g c =

@@ -1,5 +1,5 @@
 //! Objects of a caller, one of each kind, which the tests register.
-ghost use Rattle.std.specs.Prelude.{Ok, codes, true};
+ghost use Rattle.std.specs.Prelude.{Ok, codes, false, true};
 ghost use Rattle.tera.specs.Prelude.{text};
 
 use tera::{Error, EscapeFn, Filter, Function, Kwargs, State, TeraResult, Test, Value};

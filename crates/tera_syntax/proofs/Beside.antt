@@ -1,9 +1,9 @@
 -- Nodes and components: what is read is derived, and the other way round.
-use Rattle.std.proofs.Common.{◌≡◌, ℕ, ◌≤◌, max, List, [], ◌∷◌, ◌++◌, Bool, true, false, Option, Some, None, IsTrue, if◌then◌else◌, codes, refl, ap, ap₂, sym, ◌∙◌, subst, arith}
+use Rattle.std.proofs.Common.{◌≡◌, ℕ, ◌≤◌, List, [], ◌∷◌, ◌++◌, Bool, true, false, Option, Some, None, IsTrue, if◌then◌else◌, codes, refl, ap, ap₂, sym, ◌∙◌, subst, arith}
 use Rattle.std.proofs.lemmas.List.{append_assoc, append-nil}
 use Rattle.std.specs.Prelude.{option_map, option_and_then}
-use Rattle.tera_syntax_tree.specs.Tree.{Signature, Nodes, NoNodes, MoreNodes, Definitions}
-use Rattle.tera_syntax_tree.specs.Depth.{node_depth, nodes_depth, parameters_depth, definition_depth, definitions_depth}
+use Rattle.tera_syntax_tree.specs.Tree.{Signature, Nodes, NoNodes, Definitions}
+use Rattle.tera_syntax_tree.specs.Depth.{nodes_depth, parameters_depth, definition_depth, definitions_depth}
 use Rattle.tera_syntax_tokens.specs.Token.{Token}
 use Rattle.tera_syntax_tokens.specs.Input.{begin, next}
 use Rattle.tera_syntax_tokens.specs.Cut.{Piece, Words, Comment, Variable, Block, Broken}
@@ -11,7 +11,7 @@ use Rattle.tera_syntax.specs.declared.heads.Surroundings.{Surroundings}
 use Rattle.tera_syntax.specs.Heads.{outside, in_component, is_component, ends_component}
 use Rattle.tera_syntax.specs.Grammar.{Defines, join, DerivesNodes, DerivesParts, last, component}
 use Rattle.tera_syntax.specs.Reader.{OpenStatement, Progress, room, signed, taken, statement, step}
-use Rattle.tera_syntax.specs.Parts.{OpenComponent, component_begun, component_ended, plain_step, top_tag, parts_step, parts_read_on}
+use Rattle.tera_syntax.specs.Parts.{OpenComponent, component_begun, component_ended, plain_step, top_tag, parts_read_on}
 use Rattle.tera_syntax.proofs.Rows.{both-fit, join-join, deep, deepest, join-deep}
 use Rattle.tera_syntax.proofs.Whole.{begun_sound, defines_complete}
 use Rattle.tera_syntax.proofs.OneTag.{component_unread, component_end_read}

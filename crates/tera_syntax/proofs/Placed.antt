@@ -1,5 +1,5 @@
 -- In what is derived, `break`, `continue` and blocks stand in their places.
-use Rattle.std.proofs.Common.{◌≡◌, Bool, true, false, ◌&&◌, List, [], ◌∷◌, ◌++◌, IsTrue, refl, sym, ap, ap₂, ◌∙◌}
+use Rattle.std.proofs.Common.{◌≡◌, Bool, true, false, ◌&&◌, List, [], ◌++◌, IsTrue, refl, sym, ap, ap₂, ◌∙◌}
 use Rattle.tera_syntax_tokens.specs.Token.{Token}
 use Rattle.tera_syntax_tokens.specs.Cut.{Piece}
 use Rattle.tera_syntax_tree.specs.Tree.{Node, Nodes, NoNodes, MoreNodes, Definitions}
@@ -7,7 +7,7 @@ use Rattle.tera_syntax_tree.specs.Leaving.{node_in_place, in_place, definitions_
 use Rattle.tera_syntax_tree.specs.Blocks.{node_blocks, blocks}
 use Rattle.tera_syntax_tree.specs.Definitions.{is_empty, have_no_blocks}
 use Rattle.tera_syntax.specs.declared.heads.Surroundings.{Surroundings}
-use Rattle.tera_syntax.specs.Heads.{Head, IfHead, ForHead, SetHead, SectionHead, BlockHead, CallHead, in_component, make, inside}
+use Rattle.tera_syntax.specs.Heads.{Head, IfHead, ForHead, SetHead, SectionHead, BlockHead, CallHead, make, inside}
 use Rattle.tera_syntax.specs.Grammar.{Simple, set, includes, breaks, continues, Opens, block, elif, join, DerivesNodes, empty, content, blank, comment, print, single, bodied, DerivesRest, ended, split, chained, DerivesParts, last, component}
 
 pub and-true : (a b : Bool) → a ≡ true → b ≡ true → (a && b) ≡ true

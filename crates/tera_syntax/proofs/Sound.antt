@@ -11,7 +11,7 @@ use Rattle.tera_syntax_tree.specs.Depth.{depth, entries_depth, filters_depth, pa
 use Rattle.tera_syntax.specs.declared.heads.Surroundings.{Surroundings}
 use Rattle.tera_syntax.specs.Heads.{Head, IfHead, ForHead, SetHead, SectionHead, BlockHead, CallHead, outside, in_component, is_component, ends_component, make, head_depth, splits, chains, inside, ends}
 use Rattle.tera_syntax.specs.Grammar.{IsWord, Opens, GoesOn, Defines, join, DerivesNodes, empty, content, blank, comment, print, single, bodied, DerivesRest, ended, split, chained}
-use Rattle.tera_syntax.specs.Reader.{OpenStatement, Progress, Tag, Single, Opening, GoingOn, Dividing, Closing, one, printed, put, room, made, row, opened, divided, divided_by, closed, shut, around, tag, taken, statement, step, whole, signed}
+use Rattle.tera_syntax.specs.Reader.{OpenStatement, Progress, Tag, Single, Opening, GoingOn, Dividing, Closing, one, printed, put, room, made, row, opened, divided, divided_by, closed, shut, around, tag, taken, statement, whole, signed}
 use Rattle.tera_syntax.specs.Parts.{OpenComponent, Parts, component_begun, component_ended, plain_step, parts_read_on}
 use Rattle.tera_syntax.proofs.Rows.{join-none, join-join, deep}
 use Rattle.tera_syntax.proofs.Whole.{whole_sound, defines_sound}

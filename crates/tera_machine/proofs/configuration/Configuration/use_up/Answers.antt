@@ -3,7 +3,7 @@ use Rattle.tera_machine.specs.Config.{config_of}
 use Rattle.tera_machine.specs.Paths.{Start, Comes, topped}
 use Rattle.tera_machine.proofs.Reaching.{two_more, compared_comes, compared_breaks}
 use Rattle.tera_machine.proofs.configuration.Configuration.use_up.Goals as goal
-use Rattle.tera_machine.proofs.configuration.Configuration.use_up.Goals.{In-Ok, In-Err}
+use Rattle.tera_machine.proofs.configuration.Configuration.use_up.Goals.{In-Ok}
 
 -- the truth value lies on top
 come : (c : In-Ok) (s : Start) → s.here.file ≡ c.args.chunk.now.file → Comes s c.args.chunk.now.code c.args.at.now c.args.steps.now (topped c.args.operand (config_of c.args.self.now)) → Comes s c.args.chunk.now.code (c.args.at.now + 2) c.comparison_at.new.steps (topped c.in-Ok.truth (config_of c.args.self.now))

@@ -7,7 +7,7 @@ use crate::objects::{Adult, Masked, Place, Strong};
 use std::alloc::Global;
 use std::io;
 use std::io::Write;
-use tera::{Context, Error, ErrorKind, Key, Map, Tera, TeraResult, Value};
+use tera::{Context, Key, Map, Tera, TeraResult, Value};
 
 /// A user, as a template reads it.
 fn user(alloc: Global, name: &str, age: i128) -> TeraResult<Value> {
@@ -41,20 +41,7 @@ const PAGE: &str = r#"{% for user in users -%}
 fn print(rt: &HostRuntime, answer: TeraResult<String>) -> io::Result<()> {
     match answer {
         Ok(text) => rt.stdout().write_all(text.as_str().as_bytes()),
-        Err(error) => explain(rt, &error),
-    }
-}
-
-fn explain(rt: &HostRuntime, error: &Error) -> io::Result<()> {
-    match error.kind() {
-        ErrorKind::RenderingError(report) => {
-            let (file, span) = (report.file(), report.span());
-            let (start, end) = (span.start, span.end);
-            println!(rt; "{file}, bytes {start} to {end}: it can't be rendered")
-        }
-        ErrorKind::TemplateNotFound => println!(rt; "there is no such template"),
-        ErrorKind::OutOfMemory => println!(rt; "out of memory"),
-        _ => println!(rt; "it was refused"),
+        Err(error) => println!(rt; "{error}"),
     }
 }
 

@@ -15,6 +15,8 @@ pub use Rattle.tera_errors.specs.Site
 pub use Rattle.tera_errors.specs.Fault
 pub use Rattle.tera_errors.specs.Answer
 pub use Rattle.tera_errors.specs.Report
+pub use Rattle.tera_errors.specs.Places as ErrorPlaces
+pub use Rattle.tera_errors.specs.Kind
 -- trees, and the texts that spell them
 pub use Rattle.tera_syntax_tree.specs.Delimiters
 pub use Rattle.tera_syntax_tree.specs.Tree

@@ -3,7 +3,7 @@ pub use Rattle.tera.specs.Lent.{texts_of}
 pub use Rattle.tera.specs.Registry.{info_at, registry_of}
 pub use Rattle.tera.specs.Rendering.{ComponentByName}
 pub use Rattle.tera.specs.Configuring.{Configures}
-pub use Rattle.tera_errors.specs.Fault.{fault_of}
+pub use Rattle.tera_errors.specs.Kind.{fault_of}
 pub use Rattle.tera_errors.specs.Answer.{Gives, GivesOneOf, Lacks}
 pub use Rattle.tera_values.specs.Val.{text}
 pub use Rattle.tera_values.specs.Named.{at_name, put}

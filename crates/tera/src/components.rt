@@ -11,13 +11,14 @@ ghost use Rattle.tera.specs.Lent.{lent_text};
 ghost use Rattle.tera.specs.Rendering.{ComponentByName, AppendsOneOf};
 
 use crate::engine::TeraOver;
+use crate::refusals::no_component;
 use std::alloc::Global;
 use tera_components::ComponentInfo;
 use tera_machine::VirtualMachine;
 use tera_objects::Objects;
 use tera_registry::Defined;
 use tera_state::Scopes;
-use tera_values::{Context, Error, TeraResult, Value};
+use tera_values::{Context, TeraResult, Value};
 
 impl<O: Objects> TeraOver<O> {
     ghost use Rattle.tera.specs.Registry.{registry_of, subject_of_component, text_meant, info_at};
@@ -67,8 +68,11 @@ impl<O: Objects> TeraOver<O> {
             args.now implicits.now (lent_text body.entry) autoescape) }
     {
         match self.templates.component(name) {
-            Some(found) => self.render_found_component(found, args, implicits, body, autoescape),
-            None => Err(Error::component_not_found()),
+            Some(found) => {
+                let answer = self.render_found_component(found, args, implicits, body, autoescape);
+                self.tell(answer, None)
+            }
+            None => Err(no_component(self.alloc, name)),
         }
     }
 

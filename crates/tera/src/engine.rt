@@ -153,7 +153,8 @@ impl<O: Objects> TeraOver<O> {
         ensures { GivesOneOf string_bytes result
             (OneOff (registry_of O.engine self.now) input.now context.now autoescape) }
     {
-        self.read_and_render(input, context, autoescape)
+        let answer = self.read_and_render(input, context, autoescape);
+        self.tell(answer, Some(input))
     }
 
     /// Appends what `render_str` answers. After an error the vector is as before.

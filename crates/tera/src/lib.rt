@@ -4,15 +4,17 @@
 pub mod components;
 pub mod engine;
 pub mod laws;
+mod refusals;
 pub mod registering;
 mod rendering;
+mod sources;
 pub mod templates;
 mod texts;
 
 // The engine.
 pub use engine::{Tera, TeraOver};
 // Values, names and errors.
-pub use tera_errors::lacking;
+pub use tera_errors::{Place, Sources, lacking, place_of};
 pub use tera_values::{
     ArgFromValue, Context, Counter, Error, ErrorKind, Key, Kwargs, Map, Name, ReportError, Shape,
     Sought, Span, StringInput, TeraResult, Value, ValueKind, WritesValues, escape_html, escape_xml,

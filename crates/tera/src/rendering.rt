@@ -23,7 +23,13 @@ use tera_syntax_tree::ParserOutput;
 use tera_values::{Context, Error, Name, TeraResult};
 
 /// The name that faults give to a text that is no template of the engine.
-const ONE_OFF: &str = "__tera_one_off";
+pub(crate) const ONE_OFF: &str = "__tera_one_off";
+
+/// A text beside the templates, as it stands. A function with a ghost value takes no `&str` itself.
+#[derive(Clone, Copy)]
+struct Source<'a> {
+    text: &'a str,
+}
 
 impl<O: Objects> TeraOver<O> {
     ghost use Rattle.tera.specs.Registry.{registry_of, place_in, subject_beside, subject_of_file, text_meant, one_off_meant, block_meant};
@@ -39,7 +45,7 @@ impl<O: Objects> TeraOver<O> {
     {
         match parse(self.alloc, ONE_OFF, input, &self.delimiters) {
             Ok(output) => match allow(self.alloc, &output) {
-                Ok(()) => self.render_output(&output, context, autoescape),
+                Ok(()) => self.render_output(Source { text: input }, &output, context, autoescape),
                 Err(error) => Err(error),
             },
             Err(error) => Err(error),
@@ -50,6 +56,7 @@ impl<O: Objects> TeraOver<O> {
     // The subject is its own.
     fn render_output<'s>(
         &'s self,
+        source: Source<'_>,
         output: &ParserOutput,
         context: &'s Context,
         autoescape: bool,
@@ -68,10 +75,10 @@ impl<O: Objects> TeraOver<O> {
         let own = components(alloc, ONE_OFF, definitions)?;
         let text = TextTable::new(alloc, &self.templates, chunk, own)?;
         if text.lacks_a_callee(&self.objects) {
-            return Err(Error::message(alloc, "what is called is not there"));
+            return Err(text.all_missing(ONE_OFF, source.text, &self.objects));
         }
         if self.templates.misses_an_include(output) {
-            return Err(Error::message(alloc, "what is included is not there"));
+            return Err(text.all_missing(ONE_OFF, source.text, &self.objects));
         }
         let alone = VirtualMachine::new_with_autoescape(alloc, autoescape, &self.objects);
         let machine = alone.with_text(&text);
@@ -175,10 +182,16 @@ fn allow(alloc: Global, output: &ParserOutput) -> TeraResult<()>
     ensures plain { OnOk result (blocks (nodes_of output.now.nodes.items) ≡ []) }
 {
     if output.parent.is_some() {
-        return Err(Error::message(alloc, "no template may be extended here"));
+        return Err(Error::message(
+            alloc,
+            "a text beside the templates can't extend a template: add it as a template",
+        ));
     }
     if !top_blocks(alloc, output.nodes.as_slice())?.is_empty() {
-        return Err(Error::message(alloc, "no block may stand here"));
+        return Err(Error::message(
+            alloc,
+            "a text beside the templates can't have a block: add it as a template",
+        ));
     }
     Ok(())
 }

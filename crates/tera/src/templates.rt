@@ -6,11 +6,13 @@ ghost use Rattle.tera_registry.specs.Prelude.{Adds, ConfiguresOneOf, pairs_of};
 ghost use Rattle.tera.specs.Rendering.{ByName, BlockByName, AppendsOneOf};
 
 use crate::engine::TeraOver;
+use crate::refusals::{no_block, no_template};
+use crate::sources::tell_of_batch;
 use crate::texts::ends_with_one_of;
 use std::collections::BTreeSet;
 use tera_objects::Objects;
 use tera_registry::FoundTemplate;
-use tera_values::{Context, Error, Name, TeraResult};
+use tera_values::{Context, Name, TeraResult};
 
 impl<O: Objects> TeraOver<O> {
     ghost use Rattle.tera.specs.Registry.{registry_of};
@@ -33,8 +35,10 @@ impl<O: Objects> TeraOver<O> {
             (Adds (registry_of O.engine self.old) (pairs_of templates.now))
             (registry_of O.engine self.old) (registry_of O.engine self.new) }
     {
-        self.templates
-            .add(&self.delimiters, templates, &self.objects)
+        let answer = self
+            .templates
+            .add(&self.delimiters, templates, &self.objects);
+        tell_of_batch(self.alloc, answer, templates)
     }
 
     /// Whether the name resolves to a template. Takes no memory.
@@ -70,8 +74,11 @@ impl<O: Objects> TeraOver<O> {
             (ByName (registry_of O.engine self.now) name.now context.now) }
     {
         match self.templates.find(name) {
-            Some(found) => self.render_found(found, found.root(), context),
-            None => Err(Error::template_not_found()),
+            Some(found) => {
+                let answer = self.render_found(found, found.root(), context);
+                self.tell(answer, None)
+            }
+            None => Err(no_template(self.alloc, name)),
         }
     }
 
@@ -103,11 +110,12 @@ impl<O: Objects> TeraOver<O> {
             Some(found) => match found.definers(block).next() {
                 Some(_) => {
                     let wanted = Name::new(self.alloc, block)?;
-                    self.render_found_block(found, found.root(), &wanted, context)
+                    let answer = self.render_found_block(found, found.root(), &wanted, context);
+                    self.tell(answer, None)
                 }
-                None => Err(Error::message(self.alloc, "no template has this block")),
+                None => Err(no_block(self.alloc, name, block)),
             },
-            None => Err(Error::template_not_found()),
+            None => Err(no_template(self.alloc, name)),
         }
     }
 

@@ -1,10 +1,12 @@
 // What a built-in is given, as it is read.
-ghost use Rattle.std.specs.Prelude.{◌+◌, ◌^◌, option_map, false};
-ghost use Rattle.tera_errors.specs.Prelude.{Gives};
+ghost use Rattle.std.specs.Prelude.{◌≡◌, ◌+◌, ◌^◌, Some, option_map, false};
+ghost use Rattle.tera_errors.specs.Prelude.{Gives, invalid_argument};
 ghost use Rattle.tera_values.specs.Prelude.{plain};
 ghost use Rattle.tera_built_ins.specs.Arguments as spec;
 ghost use Rattle.tera_built_ins.specs.Reading.{given_of};
 
+use std::alloc::Global;
+use tera_values::refusals::unfit;
 use tera_values::{Error, Kwargs, Map, Shape, TeraResult, Value};
 
 /// A text, and whether it is marked safe.
@@ -14,68 +16,102 @@ pub(crate) struct Given<'a> {
     pub(crate) is_safe: bool,
 }
 
-/// A text, and no other kind. Takes no memory.
-pub(crate) fn as_text(value: &Value) -> TeraResult<Given<'_>>
+// A text, which is the argument of this name or what is worked on.
+#[inline(always)]
+fn text_in<'a>(alloc: Global, argument: Option<&str>, value: &'a Value) -> TeraResult<Given<'a>>
     ensures { Gives given_of result (spec.as_text value.now) }
 {
     match value.shape() {
         Shape::Text(text, is_safe) => Ok(Given { text, is_safe }),
-        _ => Err(Error::invalid_argument()),
+        _ => Err(unfit(alloc, argument, value, "a string")),
     }
 }
 
-/// The items of an array, and no other kind. Takes no memory.
-pub(crate) fn as_array(value: &Value) -> TeraResult<&[Value]>
+/// The text that is worked on, and no other kind. Takes no memory but for a fault's words.
+pub(crate) fn as_text(alloc: Global, value: &Value) -> TeraResult<Given<'_>>
+    ensures { Gives given_of result (spec.as_text value.now) }
+{
+    text_in(alloc, None, value)
+}
+
+/// The items of an array, and no other kind. Takes no memory but for a fault's words.
+pub(crate) fn as_array(alloc: Global, value: &Value) -> TeraResult<&[Value]>
     ensures { Gives (λ s. s.now) result (spec.as_array value.now) }
 {
     match value.shape() {
         Shape::Array(items) => Ok(items),
-        _ => Err(Error::invalid_argument()),
+        _ => Err(unfit(alloc, None, value, "an array")),
     }
 }
 
-/// A map, and no other kind. Takes no memory.
-pub(crate) fn as_map(value: &Value) -> TeraResult<&Map>
+/// A map, and no other kind. Takes no memory but for a fault's words.
+pub(crate) fn as_map(alloc: Global, value: &Value) -> TeraResult<&Map>
     ensures { Gives (λ m. m.now) result (spec.as_map value.now) }
 {
     match value.shape() {
         Shape::Map(all) => Ok(all),
-        _ => Err(Error::invalid_argument()),
+        _ => Err(unfit(alloc, None, value, "a map")),
     }
 }
 
-/// An integer, and no other kind. Takes no memory.
-pub(crate) fn as_integer(value: &Value) -> TeraResult<i128>
+// An integer, which is the argument of this name or what is worked on.
+#[inline(always)]
+fn integer_in(alloc: Global, argument: Option<&str>, value: &Value) -> TeraResult<i128>
     ensures { Gives (λ z. z) result (spec.as_integer value.now) }
 {
     match value.shape() {
         Shape::Int(number) => Ok(number),
-        _ => Err(Error::invalid_argument()),
+        _ => Err(unfit(alloc, argument, value, "an integer")),
     }
 }
 
-/// A truth value, and no other kind. Takes no memory.
-pub(crate) fn as_bool(value: &Value) -> TeraResult<bool>
+/// The integer that is worked on, and no other kind. Takes no memory but for a fault's words.
+pub(crate) fn as_integer(alloc: Global, value: &Value) -> TeraResult<i128>
+    ensures { Gives (λ z. z) result (spec.as_integer value.now) }
+{
+    integer_in(alloc, None, value)
+}
+
+// A truth value, which is the argument of this name.
+#[inline(always)]
+fn bool_in(alloc: Global, argument: &str, value: &Value) -> TeraResult<bool>
     ensures { Gives (λ b. b) result (spec.as_bool value.now) }
 {
     match value.shape() {
         Shape::Bool(flag) => Ok(flag),
-        _ => Err(Error::invalid_argument()),
+        _ => Err(unfit(alloc, Some(argument), value, "a bool")),
     }
 }
 
-/// An integer from 0 to `most`, and no other value. Takes no memory.
-fn as_natural(value: &Value, most: usize) -> TeraResult<usize>
+// An integer from 0 to `most`, which is the argument of this name.
+#[inline(always)]
+fn natural_in(alloc: Global, argument: &str, value: &Value, most: usize) -> TeraResult<usize>
     ensures { Gives (λ n. n) result (spec.as_natural (most + 1) value.now) }
 {
-    let number = match as_integer(value) {
+    let number = match integer_in(alloc, Some(argument), value) {
         Ok(number) => number,
         Err(error) => return Err(error),
     };
     if number < 0 || number > most as i128 {
-        return Err(Error::invalid_argument());
+        return Err(out_of_range(alloc, argument, number));
     }
     Ok(number as usize)
+}
+
+#[inline(never)]
+fn out_of_range(alloc: Global, argument: &str, number: i128) -> Error
+    ensures { result ≡ Some invalid_argument }
+{
+    let wanted = if number < 0 {
+        "an integer from 0 on"
+    } else {
+        "a smaller integer"
+    };
+    let words = format!(in alloc; "the argument `{argument}` is {number}, and {wanted} is wanted");
+    match words {
+        Ok(words) => Error::invalid_argument().telling(alloc, words.as_str()),
+        Err(_) => Error::invalid_argument(),
+    }
 }
 
 /// A text that may be left out.
@@ -85,7 +121,7 @@ pub(crate) fn optional_text<'a>(arguments: &'a Kwargs, name: &str) -> TeraResult
 {
     match arguments.value(name) {
         None => Ok(None),
-        Some(value) => match as_text(value) {
+        Some(value) => match text_in(arguments.alloc(), Some(name), value) {
             Ok(given) => Ok(Some(given)),
             Err(error) => Err(error),
         },
@@ -93,12 +129,13 @@ pub(crate) fn optional_text<'a>(arguments: &'a Kwargs, name: &str) -> TeraResult
 }
 
 /// A text that must be there.
+#[inline(always)]
 pub(crate) fn needed_text<'a>(arguments: &'a Kwargs, name: &str) -> TeraResult<Given<'a>>
     ensures { Gives given_of result (spec.needed spec.as_text name.now arguments.now) }
 {
     match arguments.value(name) {
-        None => Err(Error::missing_argument()),
-        Some(value) => as_text(value),
+        None => Err(arguments.missing(name)),
+        Some(value) => text_in(arguments.alloc(), Some(name), value),
     }
 }
 
@@ -113,7 +150,7 @@ pub(crate) fn text_or<'a>(
 {
     match arguments.value(name) {
         None => Ok(default),
-        Some(value) => match as_text(value) {
+        Some(value) => match text_in(arguments.alloc(), Some(name), value) {
             Ok(given) => Ok(given.text),
             Err(error) => Err(error),
         },
@@ -125,18 +162,19 @@ pub(crate) fn needed_value<'a>(arguments: &'a Kwargs, name: &str) -> TeraResult<
     ensures { Gives (λ v. v.now) result (spec.needed spec.as_any name.now arguments.now) }
 {
     match arguments.value(name) {
-        None => Err(Error::missing_argument()),
+        None => Err(arguments.missing(name)),
         Some(value) => Ok(value),
     }
 }
 
 /// An integer that must be there.
+#[inline(always)]
 pub(crate) fn needed_integer(arguments: &Kwargs, name: &str) -> TeraResult<i128>
     ensures { Gives (λ z. z) result (spec.needed spec.as_integer name.now arguments.now) }
 {
     match arguments.value(name) {
-        None => Err(Error::missing_argument()),
-        Some(value) => as_integer(value),
+        None => Err(arguments.missing(name)),
+        Some(value) => integer_in(arguments.alloc(), Some(name), value),
     }
 }
 
@@ -147,7 +185,7 @@ pub(crate) fn integer_or(arguments: &Kwargs, name: &str, default: i128) -> TeraR
 {
     match arguments.value(name) {
         None => Ok(default),
-        Some(value) => as_integer(value),
+        Some(value) => integer_in(arguments.alloc(), Some(name), value),
     }
 }
 
@@ -157,8 +195,8 @@ pub(crate) fn needed_size(arguments: &Kwargs, name: &str) -> TeraResult<usize>
         (spec.needed (spec.as_natural (2 ^ 64)) name.now arguments.now) }
 {
     match arguments.value(name) {
-        None => Err(Error::missing_argument()),
-        Some(value) => as_natural(value, usize::MAX),
+        None => Err(arguments.missing(name)),
+        Some(value) => natural_in(arguments.alloc(), name, value, usize::MAX),
     }
 }
 
@@ -182,7 +220,7 @@ pub(crate) fn natural_or(
 {
     match arguments.value(name) {
         None => Ok(default),
-        Some(value) => as_natural(value, most),
+        Some(value) => natural_in(arguments.alloc(), name, value, most),
     }
 }
 
@@ -193,6 +231,6 @@ pub(crate) fn flag(arguments: &Kwargs, name: &str) -> TeraResult<bool>
 {
     match arguments.value(name) {
         None => Ok(false),
-        Some(value) => as_bool(value),
+        Some(value) => bool_in(arguments.alloc(), name, value),
     }
 }

@@ -2,8 +2,9 @@
 ghost use Rattle.tera_errors.specs.Prelude.{Gives};
 ghost use Rattle.tera_built_ins.specs.Attributes.{attribute_of};
 
+use crate::refusals::no_attribute;
 use std::alloc::Global;
-use tera_values::{Error, TeraResult, Value};
+use tera_values::{TeraResult, Value};
 
 /// What stands at the end of a path; a `Message` where nothing does.
 pub(crate) fn attribute_of<'a>(alloc: Global, item: &'a Value, path: &str) -> TeraResult<&'a Value>
@@ -11,6 +12,6 @@ pub(crate) fn attribute_of<'a>(alloc: Global, item: &'a Value, path: &str) -> Te
 {
     match item.get_from_path(path) {
         Some(attribute) => Ok(attribute),
-        None => Err(Error::message(alloc, "an item has no such attribute")),
+        None => Err(no_attribute(alloc, item, path)),
     }
 }

@@ -6,6 +6,7 @@ ghost use Rattle.tera_built_ins.specs.Functions.{range_of, throw_of, counted, st
 ghost use Rattle.tera_built_ins.specs.Rooms.{HasRoom, EachIsBelow};
 
 use crate::arguments::{integer_or, needed_integer, needed_text};
+use crate::refusals::{long_range, no_range};
 use std::alloc::Global;
 use tera_values::{Error, Kwargs, TeraResult, Value};
 
@@ -21,8 +22,8 @@ pub fn range(alloc: Global, arguments: &Kwargs) -> TeraResult<Value>
     let step = integer_or(arguments, "step_by", 1)?;
     match counted(start, end, step) {
         Some(count) if count <= MOST => Ok(Value::array(stepping(alloc, start, step, count)?)),
-        Some(_) => Err(Error::message(alloc, "a range has at most 100000 numbers")),
-        None => Err(Error::message(alloc, "no range has these bounds and this step")),
+        Some(count) => Err(long_range(alloc, count, MOST)),
+        None => Err(no_range(alloc, start, end, step)),
     }
 }
 
@@ -61,6 +62,7 @@ fn strides(low: i128, high: i128, stride: u128) -> Option<u128>
     }
 }
 
+#[inline(never)]
 fn stepping(alloc: Global, start: i128, step: i128, count: u128) -> TeraResult<Vec<Value>>
     requires { HasRoom start step count }
     ensures { Gives (λ v. v.items) result (Ok (stepping start step count)) }

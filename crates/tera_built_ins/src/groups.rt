@@ -33,7 +33,7 @@ pub(crate) struct Group {
 pub fn group_by(alloc: Global, value: &Value, arguments: &Kwargs) -> TeraResult<Value>
     ensures { Gives (λ v. v) result (group_by_of plain value.now arguments.now) }
 {
-    let items = as_array(value)?;
+    let items = as_array(alloc, value)?;
     if items.is_empty() {
         return Ok(Value::map(Map::new(alloc)));
     }

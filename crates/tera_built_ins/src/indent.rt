@@ -2,7 +2,7 @@
 ghost use Rattle.std.specs.Prelude.{◌≡◌, nat_eq, length, Ok, OnOk, IfErr, cond, codes, ◌++◌, string_bytes, option_map};
 ghost use Rattle.std.specs.List.{repeat};
 ghost use Rattle.std.specs.Str.{chars};
-ghost use Rattle.tera_errors.specs.Prelude.{Gives, Lacks};
+ghost use Rattle.tera_errors.specs.Prelude.{Gives, Lacks, Tells, message};
 ghost use Rattle.tera_values.specs.Prelude.{plain};
 ghost use Rattle.tera_built_ins.specs.Escaping.{escaping_of, applied};
 ghost use Rattle.tera_built_ins.specs.Reading.{given_of};
@@ -10,9 +10,20 @@ ghost use Rattle.tera_built_ins.specs.Indent as spec;
 
 use crate::arguments::{Given, as_text, flag, optional_text, size_or};
 use crate::escaping::{EscapeFn, Filtering};
+use crate::refusals::no_character;
 use crate::safe_parts::{given_safe, made, part};
 use std::alloc::Global;
 use tera_values::{Error, TeraResult, Value};
+
+#[inline(never)]
+fn no_indentation(alloc: Global, indentation: Option<Given<'_>>) -> Error
+    ensures { Tells result message }
+{
+    match indentation {
+        Some(given) => no_character(alloc, "indentation", given.text),
+        None => Error::message(alloc, "one character is wanted"),
+    }
+}
 
 fn append_first(line: &str, padding: &str, first: bool, out: &mut String) -> TeraResult<()>
     ensures ok { OnOk result (string_bytes out.new ≡
@@ -105,13 +116,13 @@ fn padding<E: EscapeFn>(
 pub fn indent<E: EscapeFn>(filtering: Filtering<'_, E>) -> TeraResult<Value>
     ensures { Gives (λ v. v) result (applied E.escaped (spec.indent_of plain) filtering.entry) }
 {
-    let given = as_text(filtering.value)?;
+    let given = as_text(filtering.alloc, filtering.value)?;
     let width = size_or(filtering.arguments, "width", 4)?;
     let indentation = optional_text(filtering.arguments, "indentation")?;
     let first = flag(filtering.arguments, "first")?;
     let blank = flag(filtering.arguments, "blank")?;
     if !is_character(indentation) {
-        return Err(Error::message(filtering.alloc, "not one character"));
+        return Err(no_indentation(filtering.alloc, indentation));
     }
     let is_safe = filtering.escaping.autoescape && (given.is_safe || given_safe(indentation));
     let padding = padding(filtering, is_safe, indentation, width.min(1000))?;

@@ -19,7 +19,7 @@ use tera_values::{Shape, TeraResult, Value};
 pub fn join<E: EscapeFn>(filtering: Filtering<'_, E>) -> TeraResult<Value>
     ensures { Gives (λ v. v) result (applied E.escaped (join_of plain) filtering.entry) }
 {
-    let items = as_array(filtering.value)?;
+    let items = as_array(filtering.alloc, filtering.value)?;
     let separator = optional_text(filtering.arguments, "sep")?;
     let is_safe = filtering.escaping.autoescape && (has_safe_text(items) || given_safe(separator));
     let between = separator_part(filtering, is_safe, separator)?;

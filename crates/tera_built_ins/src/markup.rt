@@ -20,7 +20,7 @@ pub enum Markup {
 pub fn escape(alloc: Global, value: &Value, markup: Markup) -> TeraResult<Value>
     ensures { Gives (λ v. v) result (escaped_by (escape_of markup) plain value.now) }
 {
-    let given = as_text(value)?;
+    let given = as_text(alloc, value)?;
     let mut escaped = String::new(alloc);
     put_escape(given.text, markup, &mut escaped)?;
     Value::string(alloc, escaped.as_str())
@@ -41,7 +41,7 @@ fn put_escape(text: &str, markup: Markup, out: &mut String) -> TeraResult<()>
 pub fn newlines_to_br(alloc: Global, value: &Value) -> TeraResult<Value>
     ensures { Gives (λ v. v) result (newlines_to_br_of plain value.now) }
 {
-    let given = as_text(value)?;
+    let given = as_text(alloc, value)?;
     let without_pairs = put(alloc, given.text, "\r\n", "<br>")?;
     let without_feeds = put(alloc, without_pairs.as_str(), "\n", "<br>")?;
     let broken = put(alloc, without_feeds.as_str(), "\r", "<br>")?;

@@ -4,6 +4,7 @@ ghost use Rattle.tera_values.specs.Prelude.{plain};
 ghost use Rattle.tera_built_ins.specs.Numbers.{abs_of, pluralize_of};
 
 use crate::arguments::text_or;
+use crate::refusals::unfit_kind;
 use std::alloc::Global;
 use tera_values::{Error, Kwargs, TeraResult, Value};
 
@@ -14,7 +15,7 @@ pub fn abs(alloc: Global, value: &Value) -> TeraResult<Value>
     match value.as_i128() {
         Some(i128::MIN) => Err(Error::message(alloc, "the least integer has no absolute value")),
         Some(number) => Ok(Value::from_int(number.abs())),
-        None => Err(Error::message(alloc, "only an integer has an absolute value")),
+        None => Err(unfit_kind(alloc, value, "an integer")),
     }
 }
 
@@ -27,6 +28,6 @@ pub fn pluralize(alloc: Global, value: &Value, arguments: &Kwargs) -> TeraResult
     match value.as_i128() {
         Some(1 | -1) => Value::string(alloc, singular),
         Some(_) => Value::string(alloc, plural),
-        None => Err(Error::message(alloc, "only an integer counts anything")),
+        None => Err(unfit_kind(alloc, value, "an integer")),
     }
 }

@@ -6,8 +6,9 @@ ghost use Rattle.tera_built_ins.specs.Pieces.{trimmed_start};
 ghost use Rattle.tera_built_ins.specs.Parse as spec;
 
 use crate::arguments::natural_or;
+use crate::refusals::{no_base, no_integer, unfit_kind};
 use std::alloc::Global;
-use tera_values::{Error, Kwargs, Shape, TeraResult, Value};
+use tera_values::{Kwargs, Shape, TeraResult, Value};
 
 /// The integer itself, or the one that a text writes in `base`.
 pub fn int(alloc: Global, value: &Value, arguments: &Kwargs) -> TeraResult<Value>
@@ -15,12 +16,12 @@ pub fn int(alloc: Global, value: &Value, arguments: &Kwargs) -> TeraResult<Value
 {
     let base = natural_or(arguments, "base", 10, u32::MAX as usize)?;
     if base < 2 || base > 36 {
-        return Err(Error::message(alloc, "a base is a number from 2 to 36"));
+        return Err(no_base(alloc, base));
     }
     match value.shape() {
         Shape::Int(number) => Ok(Value::from_int(number)),
         Shape::Text(text, _) => read(alloc, base as u32, text),
-        _ => Err(Error::message(alloc, "only a text is read as an integer")),
+        _ => Err(unfit_kind(alloc, value, "a string or an integer")),
     }
 }
 
@@ -33,7 +34,7 @@ fn read(alloc: Global, base: u32, text: &str) -> TeraResult<Value>
     let numeral = without_prefix(text.trim(), base);
     match i128::from_str_radix(numeral, base) {
         Ok(number) => Ok(Value::from_int(number)),
-        Err(_) => Err(Error::message(alloc, "the text is no integer in this base")),
+        Err(_) => Err(no_integer(alloc, text, base)),
     }
 }
 

@@ -23,7 +23,7 @@ pub(crate) fn put(alloc: Global, text: &str, from: &str, to: &str) -> TeraResult
 pub fn replace<E: EscapeFn>(filtering: Filtering<'_, E>) -> TeraResult<Value>
     ensures { Gives (λ v. v) result (applied E.escaped (replace_of plain) filtering.entry) }
 {
-    let given = as_text(filtering.value)?;
+    let given = as_text(filtering.alloc, filtering.value)?;
     let from = needed_text(filtering.arguments, "from")?;
     let to = needed_text(filtering.arguments, "to")?;
     let is_safe = filtering.escaping.autoescape && (given.is_safe || to.is_safe);

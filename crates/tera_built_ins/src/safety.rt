@@ -7,14 +7,15 @@ ghost use Rattle.tera_built_ins.specs.Safety.{safe_of, escape_of, str_of};
 use crate::arguments::as_text;
 use crate::escaping::{EscapeFn, Filtering};
 use std::alloc::Global;
-use tera_values::{Error, Shape, TeraResult, Value};
+use tera_values::refusals::unfit;
+use tera_values::{Shape, TeraResult, Value};
 
 /// The printed text, marked safe. A text is not copied.
 pub fn safe(alloc: Global, value: &Value) -> TeraResult<Value>
     ensures { Gives (λ v. v) result (safe_of plain value.now) }
 {
     match value.shape() {
-        Shape::Undefined => Err(Error::invalid_argument()),
+        Shape::Undefined => Err(unfit(alloc, None, value, "a value that is defined")),
         Shape::Text(_, _) => Ok(value.try_clone()?.mark_safe()),
         _ => Value::safe_string(alloc, value.printed(alloc)?.as_str()),
     }
@@ -25,7 +26,7 @@ pub fn escape<E: EscapeFn>(filtering: Filtering<'_, E>) -> TeraResult<Value>
     ensures { Gives (λ v. v) result (escape_of plain
         (escaping_of E.escaped filtering.entry.escaping) filtering.entry.value.now) }
 {
-    let given = as_text(filtering.value)?;
+    let given = as_text(filtering.alloc, filtering.value)?;
     if given.is_safe {
         return filtering.value.try_clone();
     }

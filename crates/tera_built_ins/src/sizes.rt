@@ -3,8 +3,9 @@ ghost use Rattle.tera_errors.specs.Prelude.{Gives};
 ghost use Rattle.tera_values.specs.Prelude.{plain};
 ghost use Rattle.tera_built_ins.specs.Sizes.{length_of, reverse_of};
 
+use crate::refusals::unfit_kind;
 use std::alloc::Global;
-use tera_values::{Error, TeraResult, Value};
+use tera_values::{TeraResult, Value};
 
 /// How many characters, bytes, items or entries there are; a `Message` for other kinds.
 pub fn length(alloc: Global, value: &Value) -> TeraResult<Value>
@@ -12,7 +13,7 @@ pub fn length(alloc: Global, value: &Value) -> TeraResult<Value>
 {
     match value.len() {
         Some(count) => Ok(Value::from_int(count as i128)),
-        None => Err(Error::message(alloc, "the value has no length")),
+        None => Err(unfit_kind(alloc, value, "a string, bytes, an array or a map")),
     }
 }
 

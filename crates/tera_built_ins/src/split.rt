@@ -44,7 +44,7 @@ fn letters(alloc: Global, content: &str) -> TeraResult<Vec<Value>>
 pub fn split(alloc: Global, value: &Value, arguments: &Kwargs) -> TeraResult<Value>
     ensures { Gives (λ v. v) result (split_of plain value.now arguments.now) }
 {
-    let given = as_text(value)?;
+    let given = as_text(alloc, value)?;
     let pattern = needed_text(arguments, "pat")?;
     let pieces = if pattern.text.is_empty() {
         letters(alloc, given.text)?

@@ -70,11 +70,11 @@ impl BuiltInTest {
             BuiltInTest::Iterable => tests::iterable(value, arguments),
             BuiltInTest::Defined => tests::defined(value, arguments),
             BuiltInTest::Undefined => tests::undefined(value, arguments),
-            BuiltInTest::Odd => tests::odd(value, arguments),
-            BuiltInTest::Even => tests::even(value, arguments),
-            BuiltInTest::DivisibleBy => tests::divisible_by(value, arguments),
-            BuiltInTest::StartingWith => tests::starting_with(value, arguments),
-            BuiltInTest::EndingWith => tests::ending_with(value, arguments),
+            BuiltInTest::Odd => tests::odd(alloc, value, arguments),
+            BuiltInTest::Even => tests::even(alloc, value, arguments),
+            BuiltInTest::DivisibleBy => tests::divisible_by(alloc, value, arguments),
+            BuiltInTest::StartingWith => tests::starting_with(alloc, value, arguments),
+            BuiltInTest::EndingWith => tests::ending_with(alloc, value, arguments),
             BuiltInTest::Containing => tests::containing(alloc, value, arguments),
         }
     }

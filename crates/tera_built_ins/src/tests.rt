@@ -33,44 +33,44 @@ pub fn undefined(value: &Value, _arguments: &Kwargs) -> TeraResult<bool>
 }
 
 /// Whether 2 does not divide the integer.
-pub fn odd(value: &Value, _arguments: &Kwargs) -> TeraResult<bool>
+pub fn odd(alloc: Global, value: &Value, _arguments: &Kwargs) -> TeraResult<bool>
     ensures { Gives (λ b. b) result (odd_test plain value.now _arguments.now) }
 {
-    let number = as_integer(value)?;
+    let number = as_integer(alloc, value)?;
     Ok(!divides(2, number))
 }
 
 /// Whether 2 divides the integer.
-pub fn even(value: &Value, _arguments: &Kwargs) -> TeraResult<bool>
+pub fn even(alloc: Global, value: &Value, _arguments: &Kwargs) -> TeraResult<bool>
     ensures { Gives (λ b. b) result (even_test plain value.now _arguments.now) }
 {
-    let number = as_integer(value)?;
+    let number = as_integer(alloc, value)?;
     Ok(divides(2, number))
 }
 
 /// Whether `divisor` divides the integer. 0 divides none.
-pub fn divisible_by(value: &Value, arguments: &Kwargs) -> TeraResult<bool>
+pub fn divisible_by(alloc: Global, value: &Value, arguments: &Kwargs) -> TeraResult<bool>
     ensures { Gives (λ b. b) result (divisible_by_test plain value.now arguments.now) }
 {
-    let divided = as_integer(value)?;
+    let divided = as_integer(alloc, value)?;
     let divisor = needed_integer(arguments, "divisor")?;
     Ok(divides(divisor, divided))
 }
 
 /// Whether the text begins with `pat`.
-pub fn starting_with(value: &Value, arguments: &Kwargs) -> TeraResult<bool>
+pub fn starting_with(alloc: Global, value: &Value, arguments: &Kwargs) -> TeraResult<bool>
     ensures { Gives (λ b. b) result (starting_with_test plain value.now arguments.now) }
 {
-    let whole = as_text(value)?;
+    let whole = as_text(alloc, value)?;
     let part = needed_text(arguments, "pat")?;
     Ok(whole.text.starts_with(part.text))
 }
 
 /// Whether the text ends with `pat`.
-pub fn ending_with(value: &Value, arguments: &Kwargs) -> TeraResult<bool>
+pub fn ending_with(alloc: Global, value: &Value, arguments: &Kwargs) -> TeraResult<bool>
     ensures { Gives (λ b. b) result (ending_with_test plain value.now arguments.now) }
 {
-    let whole = as_text(value)?;
+    let whole = as_text(alloc, value)?;
     let part = needed_text(arguments, "pat")?;
     Ok(whole.text.ends_with(part.text))
 }

@@ -32,7 +32,7 @@ fn off_end<'a>(text: &'a str, pattern: Option<Given<'_>>) -> &'a str
 pub fn trim_start(alloc: Global, value: &Value, arguments: &Kwargs) -> TeraResult<Value>
     ensures { Gives (λ v. v) result (spec.trim_start_of plain value.now arguments.now) }
 {
-    let given = as_text(value)?;
+    let given = as_text(alloc, value)?;
     let pattern = optional_text(arguments, "pat")?;
     made(alloc, off_start(given.text, pattern), given.is_safe)
 }
@@ -41,7 +41,7 @@ pub fn trim_start(alloc: Global, value: &Value, arguments: &Kwargs) -> TeraResul
 pub fn trim_end(alloc: Global, value: &Value, arguments: &Kwargs) -> TeraResult<Value>
     ensures { Gives (λ v. v) result (spec.trim_end_of plain value.now arguments.now) }
 {
-    let given = as_text(value)?;
+    let given = as_text(alloc, value)?;
     let pattern = optional_text(arguments, "pat")?;
     made(alloc, off_end(given.text, pattern), given.is_safe)
 }
@@ -50,7 +50,7 @@ pub fn trim_end(alloc: Global, value: &Value, arguments: &Kwargs) -> TeraResult<
 pub fn trim(alloc: Global, value: &Value, arguments: &Kwargs) -> TeraResult<Value>
     ensures { Gives (λ v. v) result (spec.trim_of plain value.now arguments.now) }
 {
-    let given = as_text(value)?;
+    let given = as_text(alloc, value)?;
     let pattern = optional_text(arguments, "pat")?;
     let rest = off_end(off_start(given.text, pattern), pattern);
     made(alloc, rest, given.is_safe)

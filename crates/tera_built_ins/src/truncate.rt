@@ -29,7 +29,7 @@ fn shorten(alloc: Global, content: &str, length: usize, end: &str) -> TeraResult
 pub fn truncate(alloc: Global, value: &Value, arguments: &Kwargs) -> TeraResult<Value>
     ensures { Gives (λ v. v) result (truncate_of plain value.now arguments.now) }
 {
-    let given = as_text(value)?;
+    let given = as_text(alloc, value)?;
     let length = needed_size(arguments, "length")?;
     let end = text_or(arguments, "end", "…")?;
     shorten(alloc, given.text, length, end)

@@ -5,6 +5,7 @@ ghost use Rattle.tera_values.specs.Prelude.{plain};
 ghost use Rattle.tera_built_ins.specs.Words.{word_count, wordcount_of};
 
 use crate::arguments::as_text;
+use std::alloc::Global;
 use tera_values::{TeraResult, Value};
 
 /// A word begins at each character that is no white space, and has none of a word before it.
@@ -23,10 +24,10 @@ fn word_count(text: &str) -> usize
     count
 }
 
-/// How many words a text has: pieces between white space, as Unicode has it. Takes no memory.
-pub fn wordcount(value: &Value) -> TeraResult<Value>
+/// How many words a text has: pieces between white space, as Unicode has it. Takes no memory but for a fault's words.
+pub fn wordcount(alloc: Global, value: &Value) -> TeraResult<Value>
     ensures { Gives (λ v. v) result (wordcount_of plain value.now) }
 {
-    let given = as_text(value)?;
+    let given = as_text(alloc, value)?;
     Ok(Value::from_int(word_count(given.text) as i128))
 }

@@ -97,6 +97,7 @@ impl<'a> Constant<'a> {
     }
 
     /// The value once more: a count where it is shared, and no copy.
+    #[inline(always)]
     pub fn load(&self) -> TeraResult<Value>
         ensures value { Gives (λ v. v) result (Ok self.now) }
         ensures ready { IsScalar self.now → IsOk result }

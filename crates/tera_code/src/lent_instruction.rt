@@ -56,6 +56,7 @@ impl<'a> LentInstruction<'a> {
     }
 
     /// The instruction, with all its parts.
+    #[inline(always)]
     pub fn unpack(&self) -> Instruction<'a>
         ensures { result ≡ self.now }
     {

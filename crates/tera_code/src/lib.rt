@@ -22,6 +22,7 @@ mod printing;
 mod room;
 mod seen;
 mod single_forms;
+mod spans;
 pub mod steps;
 pub mod target;
 mod unpack;

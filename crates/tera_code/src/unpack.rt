@@ -140,6 +140,7 @@ impl Tables {
     }
 
     /// The instruction that is meant.
+    #[inline(always)]
     pub(crate) fn unpack(&self, packed: Packed) -> Instruction<'_>
         requires { Within (shelf_of self.now) packed }
         ensures { result ≡ unpacked (shelf_of self.now) packed }

@@ -148,12 +148,12 @@ impl ComponentArg {
     {
         let value = match self.offer(alloc, given, caller)? {
             Some(value) => value,
-            None => return Err(faults::missing(alloc, component, self.name.as_str())),
+            None => return Err(faults::missing(alloc, component, self.name.as_str(), given)),
         };
         match self.of_type {
             Some(of_type) if !is_of_type(&value, of_type) => {
                 let name = self.name.as_str();
-                Err(faults::unfit(alloc, component, name, of_type, value.name()))
+                Err(faults::unfit(alloc, component, name, of_type, value.in_words()))
             }
             _ => Ok(value),
         }

@@ -165,7 +165,10 @@ impl ComponentDefinition {
             return context.put(rest.share()?, Value::map(others).shared(alloc)?);
         }
         match others.entry_at(0) {
-            Some((name, _)) => Err(faults::unknown(alloc, self.name.as_str(), name)),
+            Some((name, _)) => {
+                let arguments = self.arguments.as_slice();
+                Err(faults::unknown(alloc, self.name.as_str(), name, arguments))
+            }
             None => Ok(()),
         }
     }

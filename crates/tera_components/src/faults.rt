@@ -1,30 +1,55 @@
 // Why a component is refused its arguments, in words.
 ghost use Rattle.tera_errors.specs.Prelude.{Tells, message};
 
+use crate::argument::ComponentArg;
 use std::alloc::{AllocError, Global};
+use tera_errors::{Guess, lacking};
+use tera_operators::Entries;
 use tera_syntax_tree::ArgumentType;
-use tera_values::{Error, Key};
+use tera_values::{Error, Key, Map};
 
-fn in_words(alloc: Global, words: Result<String, AllocError>) -> Error
+/// A parameter has no value. It tells of an argument that is given and whose name is near.
+#[inline(never)]
+pub(crate) fn missing(alloc: Global, component: &str, parameter: &str, given: &Entries<'_>) -> Error
     ensures { Tells result message }
 {
-    match words {
-        Ok(words) => Error::message(alloc, words.as_str()),
-        Err(_) => Error::out_of_memory(),
+    Error::message_from(missing_in_words(alloc, component, parameter, given))
+}
+
+fn missing_in_words(
+    alloc: Global,
+    component: &str,
+    parameter: &str,
+    given: &Entries<'_>,
+) -> Result<String, AllocError> {
+    let mut guess = Guess::new(alloc, parameter);
+    match given.as_map() {
+        Some(given) => add_names(given, &mut guess)?,
+        None => {
+            let given = lacking(given.to_map(alloc))?;
+            add_names(&given, &mut guess)?;
+        }
+    }
+    match guess.name() {
+        Some(given) => format!(in alloc;
+            "component `{component}` needs the argument `{parameter}`, and `{given}` is given"
+        ),
+        None => format!(in alloc; "component `{component}` needs the argument `{parameter}`"),
     }
 }
 
-/// A parameter has no value.
-pub(crate) fn missing(alloc: Global, component: &str, parameter: &str) -> Error
-    ensures { Tells result message }
-{
-    let words = format!(in alloc;
-        "component `{component}` needs the argument `{parameter}`, and nothing is given for it"
-    );
-    in_words(alloc, words)
+// Tries the names of arguments.
+fn add_names(given: &Map, guess: &mut Guess<'_>) -> Result<(), AllocError> {
+    for position in 0..given.len() {
+        if let Some((Key::Text(name), _)) = given.entry_at(position) {
+            guess.add(name.as_str())?;
+        }
+    }
+    Ok(())
 }
 
 /// A parameter's value is of another type.
+#[inline(never)]
 pub(crate) fn unfit(
     alloc: Global,
     component: &str,
@@ -35,33 +60,55 @@ pub(crate) fn unfit(
     ensures { Tells result message }
 {
     let wanted = type_name(wanted);
-    let words = format!(in alloc;
-        "component `{component}` needs for the argument `{parameter}` a value of type {wanted}, and is given one of type {given}"
-    );
-    in_words(alloc, words)
+    Error::message_from(format!(in alloc;
+        "component `{component}`: the argument `{parameter}` is {given}, and {wanted} is wanted"
+    ))
 }
 
-/// No parameter takes an argument of this name.
-pub(crate) fn unknown(alloc: Global, component: &str, argument: &Key) -> Error
+/// No parameter takes an argument of this name. It tells of one whose name is near.
+#[inline(never)]
+pub(crate) fn unknown(
+    alloc: Global,
+    component: &str,
+    argument: &Key,
+    parameters: &[ComponentArg],
+) -> Error
     ensures { Tells result message }
 {
+    Error::message_from(unknown_in_words(alloc, component, argument, parameters))
+}
+
+fn unknown_in_words(
+    alloc: Global,
+    component: &str,
+    argument: &Key,
+    parameters: &[ComponentArg],
+) -> Result<String, AllocError> {
     let name = match argument {
         Key::Text(name) => name.as_str(),
         _ => "",
     };
-    let words = format!(in alloc;
-        "component `{component}` is given the argument `{name}`, and has no parameter of that name"
-    );
-    in_words(alloc, words)
+    let mut guess = Guess::new(alloc, name);
+    for parameter in parameters {
+        guess.add(parameter.name())?;
+    }
+    match guess.name() {
+        Some(near) => format!(in alloc;
+            "component `{component}` has no parameter `{name}` (is `{near}` meant?)"
+        ),
+        None => format!(in alloc;
+            "component `{component}` has no parameter `{name}`, and is given an argument for it"
+        ),
+    }
 }
 
 fn type_name(of_type: ArgumentType) -> &'static str {
     match of_type {
-        ArgumentType::String => "string",
-        ArgumentType::Bool => "bool",
-        ArgumentType::Integer => "integer",
-        ArgumentType::Number => "number",
-        ArgumentType::Array => "array",
-        ArgumentType::Map => "map",
+        ArgumentType::String => "a string",
+        ArgumentType::Bool => "a bool",
+        ArgumentType::Integer => "an integer",
+        ArgumentType::Number => "a number",
+        ArgumentType::Array => "an array",
+        ArgumentType::Map => "a map",
     }
 }

@@ -17,10 +17,10 @@ use crate::configuration::Configuration;
 use crate::ended::Ended;
 use crate::machine::{Limit, VirtualMachine};
 use crate::place::LoopPlace;
+use crate::refusals::{no_block, none_above, open_block};
 use crate::wanted::Wanted;
 use std::mem::replace;
 use tera_code::Chunk;
-use tera_errors::Error;
 use tera_objects::Objects;
 use tera_operators::Operand;
 use tera_registry::{Body, Definer, Definers, FoundTemplate};
@@ -182,23 +182,16 @@ impl<'t, O: Objects> VirtualMachine<'t, O> {
         match asked {
             Asked::Block(name, span) => {
                 let Some(definer) = self.definers::<M>(name).next() else {
-                    let words = "no template has this block";
-                    return Err(Error::rendering(self.alloc, words, chunk.file(), span));
+                    return Err(no_block(self.alloc, name, chunk.file(), span));
                 };
                 if blocks.opened.has(definer.number) {
-                    let words = "a block is put out inside itself";
-                    return Err(Error::rendering(self.alloc, words, chunk.file(), span));
+                    return Err(open_block(self.alloc, name, chunk.file(), span));
                 }
                 Ok(definer)
             }
             Asked::Above(span) => match blocks.above.next() {
                 Some(definer) => Ok(definer),
-                None => Err(Error::rendering(
-                    self.alloc,
-                    "no template above has the block",
-                    chunk.file(),
-                    span,
-                )),
+                None => Err(none_above(self.alloc, chunk.file(), span)),
             },
         }
     }

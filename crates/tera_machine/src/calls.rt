@@ -1,5 +1,5 @@
 // Instructions that call filters, tests and functions.
-ghost use Rattle.std.specs.Prelude.{◌≡◌, Bool, List, Ok, Result};
+ghost use Rattle.std.specs.Prelude.{◌≡◌, Bool, Err, List, Ok, Result};
 ghost use Rattle.tera_errors.specs.Prelude.{Gives, Fault};
 ghost use Rattle.tera_errors.specs.Site.{Name};
 ghost use Rattle.tera_values.specs.Prelude.{bool, plain};
@@ -13,10 +13,11 @@ ghost use Rattle.tera_machine.specs.Subject.{here_of};
 
 use crate::configuration::Configuration;
 use crate::machine::{Going, VirtualMachine};
+use std::alloc::Global;
 use tera_code::{CallKind, LentName, Names};
 use tera_objects::{Call, Objects};
 use tera_operators::{Operand, arguments, operand_or_call_fault, operand_or_fault};
-use tera_values::{Span, TeraResult, Value};
+use tera_values::{Error, Span, TeraResult, Value};
 
 impl<'c> Configuration<'c> {
     /// Calls what has this name, which sees the scopes. There is an operand for each name of an argument. A fault is at the call,
@@ -48,7 +49,11 @@ impl<'c> Configuration<'c> {
         };
         match kind {
             CallKind::Function => {
-                let answer = objects.call_function(call);
+                let name = call.name;
+                let answer = match objects.call_function(call) {
+                    Ok(value) => return self.push(value, span),
+                    Err(error) => Err(of_function(alloc, name, error)),
+                };
                 self.put(operand_or_fault(alloc, file, answer, span, span)?)
             }
             CallKind::Filter => {
@@ -79,8 +84,15 @@ fn filter<O: Objects>(
         (seen (O.engine machine.now.objects.now) call.entry) call.entry.name.now)
         target.now given span) }
 {
+    let (alloc, name) = (machine.alloc, call.name);
     let answer = machine.objects.call_filter(call, target.value());
-    operand_or_call_fault(machine.alloc, file, answer, target.span(), span)
+    match answer {
+        Ok(value) => Ok(Operand::new(value, span)),
+        Err(error) => {
+            let answer = Err(error.of_callee(alloc, "filter", name));
+            operand_or_call_fault(machine.alloc, file, answer, target.span(), span)
+        }
+    }
 }
 
 // The same of a test.
@@ -97,17 +109,31 @@ fn test<O: Objects>(
         (seen (O.engine machine.now.objects.now) call.entry) call.entry.name.now)
         target.now given span) }
 {
-    let answer = truth(machine.objects.call_test(call, target.value()));
-    operand_or_call_fault(machine.alloc, file, answer, target.span(), span)
+    let (alloc, name) = (machine.alloc, call.name);
+    match machine.objects.call_test(call, target.value()) {
+        Ok(flag) => Ok(Operand::new(Value::from_bool(flag), span)),
+        Err(error) => {
+            let answer = no_truth(error.of_callee(alloc, "test", name));
+            operand_or_call_fault(machine.alloc, file, answer, target.span(), span)
+        }
+    }
 }
 
-// What is answered, as a truth value.
-fn truth(answer: TeraResult<bool>) -> TeraResult<Value>
-    ensures { (meant : Result Bool Fault) → Gives (λ b. b) answer meant →
+// The fault of a test, in the place of the value that it would have made.
+fn no_truth(error: Error) -> TeraResult<Value>
+    ensures { (meant : Result Bool Fault) → Gives (λ b. b) (Err error) meant →
         Gives (λ v. v) result (then meant (λ b. Ok (bool b))) }
 {
-    match answer {
-        Ok(holds) => Ok(Value::from_bool(holds)),
-        Err(error) => Err(error),
+    Err(error)
+}
+
+// The fault of a function that names it. What `throw` refuses it refuses in the author's own words.
+#[inline(never)]
+fn of_function(alloc: Global, name: &str, error: Error) -> Error
+    ensures { result ≡ error }
+{
+    if name == "throw" {
+        return error;
     }
+    error.of_callee(alloc, "function", name)
 }

@@ -12,6 +12,7 @@ use tera_objects::Objects;
 use tera_values::{Span, Value};
 
 impl<'c> Configuration<'c> {
+    #[inline(never)]
     pub(crate) fn start_capture<'f>(&mut self) -> Going<'f>
         ensures { Does capture_started self.old result self.new }
     {
@@ -20,6 +21,7 @@ impl<'c> Configuration<'c> {
     }
 
     // The text is safe where texts are escaped: what is put out in a capture is escaped already.
+    #[inline(never)]
     pub(crate) fn end_capture<'f, O: Objects>(
         &mut self,
         machine: &VirtualMachine<'_, O>,

@@ -17,14 +17,14 @@ use crate::asked::AskedComponent;
 use crate::bodies::Outer;
 use crate::configuration::Configuration;
 use crate::machine::{Limit, VirtualMachine};
-use tera_errors::Error;
+use crate::refusals::{no_component, too_deep};
 use tera_objects::Objects;
 use tera_operators::{Operand, fault_at};
 use tera_registry::{Body, Defined, TextTable};
 use tera_values::{Kwargs, Name, Span, TeraResult};
 
 /// How deep components may call one another.
-const MAX_DEPTH: usize = 20;
+pub(crate) const MAX_DEPTH: usize = 20;
 
 /// The components that a text beside the templates defines.
 #[derive(Clone, Copy)]
@@ -126,8 +126,7 @@ impl<'t, O: Objects> VirtualMachine<'t, O> {
             span,
         } = asked;
         let Some(component) = self.named::<M>(here, next, name) else {
-            let words = "no component has this name";
-            return Err(Error::rendering(self.alloc, words, here.chunk().file(), span));
+            return Err(no_component(self.alloc, name, here.chunk().file(), span));
         };
         let scopes = &configuration.scopes;
         let context = match component.definition.bind(self.alloc, &given, scopes, body) {
@@ -135,8 +134,7 @@ impl<'t, O: Objects> VirtualMachine<'t, O> {
             Err(error) => return Err(fault_at(self.alloc, here.chunk().file(), &error, span)),
         };
         if self.depth >= MAX_DEPTH {
-            let words = "components call one another too deep";
-            return Err(Error::message(self.alloc, words));
+            return Err(too_deep(self.alloc, name));
         }
         Ok(Called {
             body: component.body,

@@ -17,7 +17,7 @@ use crate::bodies::Outer;
 use crate::configuration::Configuration;
 use crate::machine::{Limit, VirtualMachine};
 use crate::open_things::Numbered;
-use tera_errors::Error;
+use crate::refusals::{no_template, open_template};
 use tera_objects::Objects;
 use tera_registry::{Body, FoundTemplate};
 use tera_values::TeraResult;
@@ -74,14 +74,12 @@ impl<'t, O: Objects> VirtualMachine<'t, O> {
             (place_at self.now (code_of here.entry).file blocks.now c) (include_request asked.entry)
             (config_of c).run.vars result }
     {
-        let AskedTemplate { name: _, span } = asked;
+        let AskedTemplate { name, span } = asked;
         let Some(found) = here.template_at(next - 1) else {
-            let words = "no template has this name";
-            return Err(Error::rendering(self.alloc, words, here.chunk().file(), span));
+            return Err(no_template(self.alloc, name, here.chunk().file(), span));
         };
         if blocks.included.has(found.position) {
-            let words = "a template is included inside itself";
-            return Err(Error::rendering(self.alloc, words, here.chunk().file(), span));
+            return Err(open_template(self.alloc, name, here.chunk().file(), span));
         }
         Ok(found)
     }

@@ -11,6 +11,7 @@ ghost use Rattle.tera_state.specs.Prelude.{around_of};
 use crate::asked::{AskedComponent, Request};
 use crate::configuration::Configuration;
 use crate::machine::{Flow, Going, VirtualMachine};
+use crate::step::push_again;
 use std::alloc::{AllocError, Global};
 use tera_code::{CallKind, Instruction, Keys};
 use tera_errors::lacking;
@@ -25,6 +26,7 @@ pub(crate) type Put = Result<bool, AllocError>;
 
 impl<'c> Configuration<'c> {
     /// Does what the instruction says, which stands in this file's text in front of the next position, and tells where to go on.
+    #[inline(always)]
     pub(crate) fn execute<'f, O: Objects>(
         &mut self,
         machine: &VirtualMachine<'_, O>,
@@ -204,10 +206,13 @@ impl<'c> Configuration<'c> {
     pub(crate) fn put<'f>(&mut self, operand: Operand) -> Going<'f>
         ensures { Does (outcome_put (Ok operand)) self.old result self.new }
     {
-        self.operands.push(operand)?;
-        Ok(Flow::On)
+        match self.operands.push(operand) {
+            Ok(()) => Ok(Flow::On),
+            Err(_) => Err(Error::out_of_memory()),
+        }
     }
 
+    #[inline(always)]
     pub(crate) fn push<'f>(&mut self, value: Value, span: Span) -> Going<'f>
         ensures { Does (pushed value span) self.old result self.new }
     {
@@ -224,9 +229,13 @@ impl<'c> Configuration<'c> {
         ensures { Does (name_loaded (around_of self.old.scopes) name.now span)
             self.old (going_on result) self.new }
     {
-        match self.scopes.look(name).to_value(alloc) {
-            Ok(value) => self.operands.push(Operand::new(value, span)),
-            Err(_) => Err(AllocError),
+        let found = self.scopes.look(name);
+        match &found {
+            Found::Kept(value) => push_again(&mut self.operands, value, span),
+            _ => match found.to_value(alloc) {
+                Ok(value) => self.operands.push(Operand::new(value, span)),
+                Err(_) => Err(AllocError),
+            },
         }
     }
 
@@ -337,6 +346,7 @@ impl<'c> Configuration<'c> {
     }
 
     // So many operands from the top, the last one first.
+    #[inline(always)]
     pub(crate) fn take_topmost(&mut self, count: usize) -> TeraResult<Vec<Operand>>
         requires { topmost count self.old.operands ≢ None }
         ensures taken { IfOk result (λ all. topmost count self.old.operands
@@ -462,10 +472,5 @@ pub(crate) fn going_on_if<'f>(alloc: Global, file: &str, span: Span, is_put: boo
 pub(crate) fn undefined_written(alloc: Global, file: &str, span: Span) -> Error
     ensures { Tells result (rendering_error (record { file = file.now; span = span })) }
 {
-    Error::rendering(
-        alloc,
-        "a value that is undefined can't be rendered",
-        file,
-        span,
-    )
+    Error::rendering_of(alloc, "is undefined", file, span)
 }

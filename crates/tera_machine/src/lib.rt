@@ -17,8 +17,10 @@ pub mod open_things;
 mod paths;
 pub mod place;
 mod printing;
+mod refusals;
 mod step;
 pub mod texts;
+mod told;
 pub mod wanted;
 
 pub use asked::{Asked, AskedComponent, AskedTemplate};

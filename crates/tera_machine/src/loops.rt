@@ -14,7 +14,7 @@ use crate::place::LoopPlace;
 use std::alloc::Global;
 use tera_code::LentName;
 use tera_objects::Objects;
-use tera_operators::{Operand, fault_at};
+use tera_operators::{Operand, fault_of_value_at};
 use tera_state::ForLoop;
 use tera_values::{Span, TeraResult, Value};
 
@@ -42,7 +42,7 @@ fn opened(
     };
     match opened {
         Ok(opened) => Ok(opened),
-        Err(error) => Err(fault_at(alloc, file, &error, span)),
+        Err(error) => Err(fault_of_value_at(alloc, file, &error, span)),
     }
 }
 
@@ -119,6 +119,7 @@ impl<'c> Configuration<'c> {
         Ok(Flow::Skip(skip))
     }
 
+    #[inline(always)]
     pub(crate) fn keep<'f>(&mut self) -> Going<'f>
         requires { IsReady kept self.old }
         ensures { Does kept self.old result self.new }
@@ -130,6 +131,7 @@ impl<'c> Configuration<'c> {
         Ok(Flow::On)
     }
 
+    #[inline(always)]
     pub(crate) fn end_comprehension<'f>(&mut self, alloc: Global, span: Span) -> Going<'f>
         requires { IsReady (comprehension_ended span) self.old }
         ensures { Does (comprehension_ended span) self.old result self.new }

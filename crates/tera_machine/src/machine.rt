@@ -19,6 +19,7 @@ use crate::blocks::OpenBlocks;
 use crate::bodies::{Back, Behind, Inside, Waiting};
 use crate::components::{Beside, Called};
 use crate::configuration::Configuration;
+use crate::told::called_from;
 use crate::wanted::Wanted;
 use std::alloc::Global;
 use std::marker::Brand;
@@ -216,8 +217,7 @@ impl<'t, O: Objects> VirtualMachine<'t, O> {
         Ok(wanted.into_text(self.alloc))
     }
 
-    // The same, in the machine's own terms, and where blocks may be open. The bodies that wait for those that they take lie in a
-    // list, so the host's stack does not grow.
+    // The same, in the machine's own terms, and where blocks may be open. A fault is told of the bodies that wait then.
     fn run_counted<M: Limit>(
         &self,
         first: Body<'t>,
@@ -241,6 +241,39 @@ impl<'t, O: Objects> VirtualMachine<'t, O> {
             configuration.new) }
     {
         let mut open: Stack<Waiting<'t>> = Stack::new(self.alloc);
+        match self.run_open::<M>(first, blocks, configuration, steps, &mut open) {
+            Ok(()) => Ok(()),
+            Err(error) => Err(called_from(self.alloc, error, &open)),
+        }
+    }
+
+    // The same, where no body waits at first. Those that wait for those that they take lie in a
+    // list, so the host's stack does not grow.
+    #[inline(never)]
+    fn run_open<M: Limit>(
+        &self,
+        first: Body<'t>,
+        blocks: &mut OpenBlocks<'t>,
+        configuration: &mut Configuration<'_>,
+        steps: &mut Steps,
+        open: &mut Stack<Waiting<'t>>,
+    ) -> TeraResult<()>
+        requires engine { engine_of O.engine self.now ≡ M.world.registry.engine }
+        requires linked { IsLinked self.now M.world }
+        requires belong { Belong M.world self.now first blocks.old }
+        requires within { EndsWithin M.world
+            (place_at self.now (code_of first).file blocks.old configuration.old)
+            (code_of first).code 0 (config_of configuration.old) (M.most - steps.old) }
+        requires none { open.old ≡ [] }
+        ensures counted { steps.old ≤ steps.new }
+        ensures bounded { steps.old ≤ M.most → steps.new ≤ M.most }
+        ensures ends { Ran M.world
+            (place_at self.now (code_of first.entry).file blocks.old configuration.old)
+            (code_of first.entry).code (config_of configuration.old) result
+            (config_of configuration.new) (steps.new - steps.old) }
+        ensures stays { OnOk result (Stays blocks.old configuration.old blocks.new
+            configuration.new) }
+    {
         let mut machine = *self;
         let mut body = first;
         let mut chunk = body.chunk();
@@ -250,7 +283,7 @@ impl<'t, O: Objects> VirtualMachine<'t, O> {
                 if open.len() == 0 {
                     return Ok(());
                 }
-                match machine.leave(&mut open, blocks, configuration) {
+                match machine.leave(open, blocks, configuration) {
                     Ok(behind) => {
                         body = behind.body;
                         at = behind.at;
@@ -278,7 +311,7 @@ impl<'t, O: Objects> VirtualMachine<'t, O> {
                 Flow::To(place, count) => at = place + count,
                 Flow::Out => at = chunk.len(),
                 Flow::Ask(request) => {
-                    match machine.take::<M>(body, next, request, blocks, configuration, &mut open) {
+                    match machine.take::<M>(body, next, request, blocks, configuration, open) {
                         Ok(inner) => body = inner,
                         Err(error) => return Err(error),
                     }

@@ -1,5 +1,5 @@
 // One instruction, as it lies in its chunk.
-ghost use Rattle.std.specs.Prelude.{◌≡◌, ◌+◌, ◌-◌, ◌<◌, ◌^◌, Some, suc, length, slice_get};
+ghost use Rattle.std.specs.Prelude.{◌≡◌, ◌∷◌, ◌+◌, ◌-◌, ◌<◌, ◌^◌, OnOk, Some, suc, length, slice_get};
 ghost use Rattle.tera_errors.specs.Prelude.{Site};
 ghost use Rattle.tera_values.specs.Prelude.{int};
 ghost use Rattle.tera_machine.specs.Config.{config_of};
@@ -18,8 +18,8 @@ use std::alloc::{AllocError, Global};
 use tera_code::{Chunk, LentInstruction, Steps};
 use tera_objects::Objects;
 use tera_operators::Operand;
-use tera_state::Found;
-use tera_values::{Name, Span, Value};
+use tera_state::Stack;
+use tera_values::{Name, Shape, Span, Value};
 
 impl<'c> Configuration<'c> {
     /// Does the instruction that stands at this position, and what is done together with it. The position becomes that of the last of
@@ -228,10 +228,7 @@ impl<'c> Configuration<'c> {
             self.old (going_on result) self.new }
     {
         match self.scopes.value_of(name) {
-            Some(value) => match Found::Kept(value).to_value(alloc) {
-                Ok(value) => self.operands.push(Operand::new(value, span)),
-                Err(_) => Err(AllocError),
-            },
+            Some(value) => push_again(&mut self.operands, value, span),
             None => self.load_sought(alloc, name, span),
         }
     }
@@ -243,5 +240,32 @@ impl<'c> Configuration<'c> {
             self.old (going_on result) self.new }
     {
         self.load_name(alloc, &name.sought(), span)
+    }
+}
+
+// Pushes the value once more. An integer is made anew in place, since loops walk over many.
+#[inline(always)]
+pub(crate) fn push_again(
+    operands: &mut Stack<Operand>,
+    value: &Value,
+    span: Span,
+) -> Result<(), AllocError>
+    ensures { OnOk result (operands.new ≡ record { value = value.now; span = span }
+        ∷ operands.old) }
+{
+    match value.shape() {
+        Shape::Int(number) => operands.push(Operand::new(Value::from_int(number), span)),
+        _ => push_copy(operands, value, span),
+    }
+}
+
+#[inline(never)]
+fn push_copy(operands: &mut Stack<Operand>, value: &Value, span: Span) -> Result<(), AllocError>
+    ensures { OnOk result (operands.new ≡ record { value = value.now; span = span }
+        ∷ operands.old) }
+{
+    match value.try_clone() {
+        Ok(value) => operands.push(Operand::new(value, span)),
+        Err(_) => Err(AllocError),
     }
 }

@@ -67,6 +67,7 @@ impl Texts {
     }
 
     /// A copy of the innermost text as a value, safe or not.
+    #[inline(never)]
     pub fn value(&self, alloc: Global, safe: bool) -> TeraResult<Value>
         ensures { Gives (λ v. v) result (Ok (text self.now.now safe)) }
     {
@@ -123,6 +124,7 @@ impl Texts {
     }
 
     /// A text of its own begins.
+    #[inline(always)]
     pub fn begin(&mut self) -> Result<(), AllocError>
         ensures { OnOk result (self.new
             ≡ record { now = []; below = self.old.now ∷ self.old.below }) }

@@ -3,6 +3,7 @@ mod code;
 mod components;
 mod engines;
 mod errors;
+mod machines;
 mod states;
 mod values;
 

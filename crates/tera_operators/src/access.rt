@@ -1,10 +1,10 @@
 // Attributes, items and slices.
 ghost use Rattle.std.specs.Prelude.{◌≡◌, IsTrue, IsOk, IsOkAnd};
-ghost use Rattle.tera_errors.specs.Prelude.{Gives};
+ghost use Rattle.tera_errors.specs.Prelude.{Gives, Tells, rendering_error};
 ghost use Rattle.tera_values.specs.Prelude.{IsScalar};
 ghost use Rattle.tera_operators.specs.Accesses.{is_missing, part_of, Decides, attribute_of, item_of, bound_at, slice_of};
 
-use crate::faults::{operand_or_fault, spanning};
+use crate::faults::{fault_of, operand_or_fault, spanning};
 use crate::operand::{LentOperand, Operand};
 use std::alloc::Global;
 use tera_values::{Error, Shape, Span, TeraResult, Value};
@@ -20,13 +20,14 @@ fn is_missing(target: &LentOperand<'_>) -> bool
 }
 
 /// Whether any access of this target gives undefined, as it has no parts: undefined and none where the access is optional.
-/// Where it isn't, undefined is a fault.
+/// Where it isn't, undefined is a fault, which names the attribute that is asked for.
 #[inline(always)]
 fn without_parts(
     alloc: Global,
     file: &str,
     target: &LentOperand<'_>,
     optional: bool,
+    part: Option<&str>,
 ) -> TeraResult<bool>
     ensures answer { Decides result (part_of file.now optional target.now) }
     ensures ready { IsTrue optional → IsTrue (is_missing target.now.value) →
@@ -36,10 +37,21 @@ fn without_parts(
         return Ok(is_missing(target));
     }
     if target.is_undefined() {
-        let text = "undefined has no parts";
-        return Err(Error::rendering(alloc, text, file, target.span()));
+        return Err(undefined_target(alloc, file, part, target.span()));
     }
     Ok(false)
+}
+
+// The target is undefined, so this attribute, or an item or a slice, can't be taken of it.
+#[inline(never)]
+fn undefined_target(alloc: Global, file: &str, part: Option<&str>, span: Span) -> Error
+    ensures { Tells result (rendering_error (record { file = file.now; span = span })) }
+{
+    let words = match part {
+        Some(name) => format!(in alloc; "is undefined, so `{name}` cannot be taken of it"),
+        None => String::from_str(alloc, "is undefined, so nothing can be taken of it"),
+    };
+    fault_of(alloc, words, file, span)
 }
 
 impl<'v> LentOperand<'v> {
@@ -58,7 +70,7 @@ impl<'v> LentOperand<'v> {
         ensures ready { IsOk (attribute_of file.now optional self.now name.now span) →
             IsOk result }
     {
-        if without_parts(alloc, file, self, optional)? {
+        if without_parts(alloc, file, self, optional, Some(name))? {
             return Ok(LentOperand::new(None, span));
         }
         let part = match self.value() {
@@ -102,11 +114,21 @@ pub fn item(
     ensures ready { IsOkAnd (item_of file.now optional target.now index.now span)
         (λ o. IsScalar o.value) → IsOk result }
 {
-    if without_parts(alloc, file, &target.lend(), optional)? {
+    if without_parts(alloc, file, &target.lend(), optional, None)? {
         return Ok(Operand::new(Value::undefined(), span));
     }
     let answer = target.value().get_item(alloc, index.value());
     operand_or_fault(alloc, file, answer, index.span(), spanning(target, index))
+}
+
+#[inline(never)]
+fn no_bound(alloc: Global, file: &str, operand: &Operand) -> Error
+    ensures { Tells result
+        (rendering_error (record { file = file.now; span = operand.now.span })) }
+{
+    let kind = operand.value().in_words();
+    let words = format!(in alloc; "is {kind}, and the bound of a slice is an integer");
+    fault_of(alloc, words, file, operand.span())
 }
 
 /// The integer that bounds a slice, or none where the bound is none; a fault at the bound for other values.
@@ -117,12 +139,7 @@ fn bound(alloc: Global, file: &str, operand: &Operand) -> TeraResult<Option<i128
     match operand.value().shape() {
         Shape::None => Ok(None),
         Shape::Int(number) => Ok(Some(number)),
-        _ => Err(Error::rendering(
-            alloc,
-            "only an integer bounds a slice",
-            file,
-            operand.span(),
-        )),
+        _ => Err(no_bound(alloc, file, operand)),
     }
 }
 
@@ -141,7 +158,7 @@ pub fn slice(
         (slice_of file.now optional target.now start.now end.now step.now span) }
     ensures ready { IsTrue optional → IsTrue (is_missing target.now.value) → IsOk result }
 {
-    if without_parts(alloc, file, &target.lend(), optional)? {
+    if without_parts(alloc, file, &target.lend(), optional, None)? {
         return Ok(Operand::new(Value::undefined(), span));
     }
     let start = bound(alloc, file, start)?;

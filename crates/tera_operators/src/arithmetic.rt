@@ -9,37 +9,57 @@ use crate::operand::Operand;
 use std::alloc::Global;
 use tera_values::{Error, TeraResult, Value, number};
 
-/// The number; a fault at the operand where it is none.
-fn number_at(alloc: Global, file: &str, operand: &Operand) -> TeraResult<i128>
+/// The number; a fault at the operand, in these words, where it is none.
+fn number_at(alloc: Global, file: &str, operand: &Operand, words: &str) -> TeraResult<i128>
     ensures value { Gives (λ n. n) result (number_at file.now operand.now) }
     ensures ready { IsOk (number_at file.now operand.now) → IsOk result }
 {
     match operand.value().as_i128() {
         Some(number) => Ok(number),
-        None => Err(Error::rendering(alloc, "this is no number", file, operand.span())),
+        None => Err(Error::rendering(alloc, words, file, operand.span())),
     }
 }
 
 /// Both numbers; of two operands that are none the left one is the fault.
-fn numbers(alloc: Global, file: &str, left: &Operand, right: &Operand) -> TeraResult<(i128, i128)>
+fn numbers(
+    alloc: Global,
+    file: &str,
+    left: &Operand,
+    right: &Operand,
+    words: &str,
+) -> TeraResult<(i128, i128)>
     ensures value { Gives (λ p. p) result (numbers file.now left.now right.now) }
     ensures ready { IsOk (numbers file.now left.now right.now) → IsOk result }
 {
-    let left = number_at(alloc, file, left)?;
-    let right = number_at(alloc, file, right)?;
+    let left = number_at(alloc, file, left, words)?;
+    let right = number_at(alloc, file, right, words)?;
     Ok((left, right))
 }
 
 /// The divisor, after both are numbers; a fault at the right operand where it is zero.
-fn divisor(alloc: Global, file: &str, left: &Operand, right: &Operand) -> TeraResult<i128>
+fn divisor(
+    alloc: Global,
+    file: &str,
+    left: &Operand,
+    right: &Operand,
+    words: &str,
+) -> TeraResult<i128>
     ensures value { Gives (λ n. n) result (divisor_of file.now left.now right.now) }
     ensures ready { IsOk (divisor_of file.now left.now right.now) → IsOk result }
 {
-    let (_, divisor) = numbers(alloc, file, left, right)?;
+    let (_, divisor) = numbers(alloc, file, left, right, words)?;
     if divisor == 0 {
         return Err(Error::rendering(alloc, "the divisor is zero", file, right.span()));
     }
     Ok(divisor)
+}
+
+// What the error tells.
+fn words_of(error: &Error) -> &str {
+    match error.words() {
+        Some(words) => words,
+        None => "a number is wanted here",
+    }
 }
 
 /// The operands of an operator, and the file that they stand in.
@@ -74,8 +94,8 @@ impl<'a> Operands<'a> {
             (λ v w. on_integers f (integers v w)) self.entry.left.now self.entry.right.now) }
         ensures ready { IsOk answer → IsOk result }
     {
-        if answer.is_err() {
-            numbers(alloc, self.file, self.left, self.right)?;
+        if let Err(error) = &answer {
+            numbers(alloc, self.file, self.left, self.right, words_of(error))?;
         }
         self.combined(alloc, answer)
     }
@@ -91,8 +111,8 @@ impl<'a> Operands<'a> {
             self.entry.left.now self.entry.right.now) }
         ensures ready { IsOk answer → IsOk result }
     {
-        if answer.is_err() {
-            divisor(alloc, self.file, self.left, self.right)?;
+        if let Err(error) = &answer {
+            divisor(alloc, self.file, self.left, self.right, words_of(error))?;
         }
         self.combined(alloc, answer)
     }

@@ -54,9 +54,9 @@ pub fn array(
         }
     }
     match unfit {
-        Some(position) => Err(Error::rendering(
+        Some(position) => Err(Error::rendering_of(
             alloc,
-            "only an array can be spread here",
+            "is no array, and only an array can be spread here",
             file,
             position,
         )),

@@ -6,7 +6,7 @@ ghost use Rattle.tera_values.specs.Prelude.{Val};
 ghost use Rattle.tera_operators.specs.Operand.{at_span, then};
 ghost use Rattle.tera_operators.specs.Calls.{by_name, placed_call};
 
-use crate::faults::fault_at;
+use crate::faults::{fault_at, fault_of_value_at};
 use crate::operand::Operand;
 use std::alloc::Global;
 use tera_values::{ErrorKind, Kwargs, Name, Span, TeraResult, Value};
@@ -37,12 +37,9 @@ pub fn operand_or_call_fault(
 {
     match answer {
         Ok(made) => Ok(Operand::new(made, call)),
-        Err(error) => {
-            let span = match error.kind() {
-                ErrorKind::InvalidArgument => value,
-                _ => call,
-            };
-            Err(fault_at(alloc, file, &error, span))
-        }
+        Err(error) => match error.kind() {
+            ErrorKind::InvalidArgument => Err(fault_of_value_at(alloc, file, &error, value)),
+            _ => Err(fault_at(alloc, file, &error, call)),
+        },
     }
 }

@@ -1,7 +1,7 @@
 // Truth, equality and order.
 ghost use Rattle.std.specs.Prelude.{◌≡◌, Bool, IsOk, IsTrue};
 ghost use Rattle.tera_errors.specs.declared.span.Span.{Span};
-ghost use Rattle.tera_errors.specs.Prelude.{Gives};
+ghost use Rattle.tera_errors.specs.Prelude.{Gives, Tells, rendering_error};
 ghost use Rattle.tera_values.specs.Prelude.{bool, checked_order, same};
 ghost use Rattle.tera_operators.specs.Operand.{spanning};
 ghost use Rattle.tera_operators.specs.Operators.{not_of, standing_of, compared, is_comparison, binary_of};
@@ -96,6 +96,28 @@ impl<'v> LentOperand<'v> {
         }
     }
 
+    // Neither operand stands before the other: both kinds are named.
+    #[inline(never)]
+    fn incomparable(&self, alloc: Global, file: &str, right: &LentOperand<'_>) -> Error
+        ensures { Tells result (rendering_error
+            (record { file = file.now; span = spanning self.now right.now })) }
+    {
+        let (left_kind, right_kind) = (self.in_words(), right.in_words());
+        let words = format!(in alloc; "{left_kind} and {right_kind} are not comparable");
+        match words {
+            Ok(words) => Error::rendering(alloc, words.as_str(), file, self.span_to(right)),
+            Err(_) => Error::out_of_memory(),
+        }
+    }
+
+    // What kind of thing the value is, in words.
+    fn in_words(&self) -> &'static str {
+        match self.value() {
+            Some(value) => value.in_words(),
+            None => "undefined",
+        }
+    }
+
     // How the operand stands to the right one; a fault at the combined span where the two are not comparable.
     #[inline(always)]
     fn standing(&self, alloc: Global, file: &str, right: &LentOperand<'_>) -> TeraResult<Ordering>
@@ -104,12 +126,7 @@ impl<'v> LentOperand<'v> {
     {
         match self.order(right) {
             Some(standing) => Ok(standing),
-            None => Err(Error::rendering(
-                alloc,
-                "the operands are not comparable",
-                file,
-                self.span_to(right),
-            )),
+            None => Err(self.incomparable(alloc, file, right)),
         }
     }
 }

@@ -99,7 +99,12 @@ fn spread_after(alloc: Global, file: &str, operand: &Operand, all: &mut Map) -> 
 {
     match entries_in(operand.value()) {
         Some(more) => keep_all(all, more),
-        None => Err(Error::rendering(alloc, "only a map can be spread here", file, operand.span())),
+        None => Err(Error::rendering_of(
+            alloc,
+            "is no map, and only a map can be spread here",
+            file,
+            operand.span(),
+        )),
     }
 }
 

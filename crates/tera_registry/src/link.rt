@@ -16,11 +16,13 @@ use crate::edges::edges;
 use crate::lineage::{Up, all_above, roots};
 use crate::table::{Table, table_of};
 use crate::template::Template;
+use crate::told_circles::in_words;
+use crate::told_missing::all_missing;
 use crate::walks::least_circle;
 use std::alloc::Global;
 use std::collections::BTreeMap;
 use std::rc::Rc;
-use tera_errors::{Error, TeraResult};
+use tera_errors::TeraResult;
 use tera_objects::Objects;
 
 /// How templates go together: what each extends, the position of the last parent of each, and which definition of each
@@ -63,7 +65,17 @@ pub fn link<O: Objects>(
     let Taken { choices, tie } = choices(alloc, templates, prefixes)?;
     let roots = match roots(alloc, ups.as_slice(), circle, tie) {
         Ok(roots) => roots,
-        Err(fault) => return Err(fault),
+        Err(fault) => {
+            return Err(in_words(
+                alloc,
+                templates,
+                prefixes,
+                ups.as_slice(),
+                edges.as_slice(),
+                tie,
+                fault,
+            ));
+        }
     };
     if any_lacks(
         templates,
@@ -72,9 +84,13 @@ pub fn link<O: Objects>(
         &choices,
         objects,
     ) {
-        return Err(Error::message(
+        return Err(all_missing(
             alloc,
-            "a template has a block that none of its parents has, or names what is not there",
+            templates,
+            prefixes,
+            ups.as_slice(),
+            &choices,
+            objects,
         ));
     }
     let table = table_of(alloc, templates, prefixes, ups.as_slice(), &choices)?;

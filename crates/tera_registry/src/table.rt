@@ -196,6 +196,23 @@ impl<'t> Linking<'t> {
         }
     }
 
+    // The entry of a block of a template.
+    fn block_entry(&self, alloc: Global, of: usize, block: &TemplateBlock) -> TeraResult<Entry>
+        ghost registry: { Registry }
+        requires knows { Knows registry self.now }
+        requires there { of < length self.now.targets.templates.now }
+        ensures code { IfOk result (λ e. chunk_of e ≡ block.now.code.value.chunk) }
+        ensures above { (t : Meant) → slice_get registry.templates of ≡ Some t
+            → IfOk result (λ e. above_of e ≡ above_block registry t block.now) }
+        ensures right { IfOk result (IsLinked (seen self.now.targets.templates.now
+            self.now.targets.prefixes.now) self.now.targets.choices.now) }
+        ensures lacks { IfErr result Lacks }
+    {
+        let mut entry = self.targets.entry(alloc, &block.code)?;
+        entry.above = self.above(of, &block.name)?;
+        Ok(entry)
+    }
+
     // Puts the entries of a template's blocks behind those of other bodies.
     fn add_blocks(
         &self,
@@ -217,9 +234,7 @@ impl<'t> Linking<'t> {
         ensures lacks { IfErr result Lacks }
     {
         for block in blocks {
-            let mut entry = self.targets.entry(alloc, &block.code)?;
-            entry.above = self.above(of, &block.name)?;
-            entries.push(entry)?;
+            entries.push(self.block_entry(alloc, of, block)?)?;
         }
         Ok(())
     }

@@ -39,7 +39,7 @@ use tera_values::{Name, Sought};
 
 /// Templates by name, and the prefixes by which a name is looked up that none of them has.
 pub struct Templates {
-    alloc: Global,
+    pub(crate) alloc: Global,
     pub(crate) all: Vec<Rc<Template>>,
     pub(crate) prefixes: Vec<String>,
     /// What each extends, which is looked up when they are linked and never again.

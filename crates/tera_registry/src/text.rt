@@ -2,7 +2,7 @@
 ghost use Rattle.std.specs.Prelude.{◌≡◌, [], map, option_map, IfOk, IfErr, IfSome};
 ghost use Rattle.std.specs.Coded.{codes};
 ghost use Rattle.std.specs.List.{All};
-ghost use Rattle.tera_errors.specs.Prelude.{Lacks, Name};
+ghost use Rattle.tera_errors.specs.Prelude.{Lacks, Name, Tells, message};
 ghost use Rattle.tera_syntax_tree.specs.Prelude.{blocks};
 ghost use Rattle.tera_syntax_tree.specs.Tree.{Tree};
 ghost use Rattle.tera_code.specs.Prelude.{nodes_code};
@@ -24,10 +24,11 @@ use crate::own::Own;
 use crate::places::component_places;
 use crate::table::Entry;
 use crate::templates::{Defined, Templates};
+use crate::told_missing::{NamedText, There, all_missing_beside};
 use std::alloc::Global;
 use std::collections::BTreeMap;
 use tera_code::Chunk;
-use tera_errors::TeraResult;
+use tera_errors::{Error, TeraResult};
 use tera_objects::Objects;
 
 /// A text beside templates: its body and those of the components that it defines, linked to these templates. A component is found by
@@ -117,5 +118,30 @@ impl<'t> TextTable<'t> {
         };
         let code: &Code = &self.body.code;
         code_lacks(objects, choices, Some(own), &code.chunk) || any_lacks(objects, choices, own)
+    }
+
+    /// One refusal that names all that it calls and includes and that is not there.
+    #[inline(never)]
+    pub fn all_missing<'x, O: Objects>(
+        &'x self,
+        file: &'x str,
+        source: &'x str,
+        objects: &'x O,
+    ) -> Error
+        ensures { Tells result message }
+    {
+        let there = There {
+            alloc: self.templates.alloc,
+            templates: self.templates.all.as_slice(),
+            prefixes: self.templates.prefixes.as_slice(),
+            choices: &self.templates.choices,
+            own: Some(Own {
+                components: self.components.as_slice(),
+                places: &self.places,
+            }),
+            objects,
+        };
+        let code: &Code = &self.body.code;
+        all_missing_beside(there, NamedText { file, source }, &code.chunk)
     }
 }

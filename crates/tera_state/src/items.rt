@@ -1,6 +1,6 @@
 // What an open loop goes over, by position.
 ghost use Rattle.std.specs.Prelude.{◌≡◌, ◌&&◌, IsOk, None, Ok, drop, length, not, slice_get};
-ghost use Rattle.tera_errors.specs.Prelude.{Gives};
+ghost use Rattle.tera_errors.specs.Prelude.{Gives, Tells, message};
 ghost use Rattle.tera_values.specs.Prelude.{plain, array, text_of, vals};
 ghost use Rattle.tera_state.specs.Found.{found_value};
 ghost use Rattle.tera_state.specs.Items.{clusters_in};
@@ -107,15 +107,37 @@ pub(crate) fn gone_over(alloc: Global, is_keyed: bool, target: Value) -> TeraRes
     ensures ready { text_of target ≡ None → IsOk (items_for is_keyed target) → IsOk result }
 {
     if lacks_keys(is_keyed, &target) {
-        return Err(Error::message(alloc, "a loop with a key needs a map"));
+        return Err(without_keys(alloc, &target));
     }
     match target.shape() {
         Shape::Text(content, _) => clusters(alloc, content),
         Shape::Array(_) => Ok(target),
         Shape::Map(_) => Ok(target),
         Shape::Bytes(_) => Ok(target),
-        _ => Err(Error::message(alloc, "the value has no items to go over")),
+        _ => Err(without_items(alloc, &target)),
     }
+}
+
+// A loop with a key goes over a map, and nothing else.
+#[inline(never)]
+fn without_keys(alloc: Global, target: &Value) -> Error
+    ensures { Tells result message }
+{
+    let kind = target.in_words();
+    Error::message_from(format!(in alloc;
+        "the value is {kind}, and a loop with a key and a value goes over a map"
+    ))
+}
+
+// A loop goes over what has items, and nothing else.
+#[inline(never)]
+fn without_items(alloc: Global, target: &Value) -> Error
+    ensures { Tells result message }
+{
+    let kind = target.in_words();
+    Error::message_from(format!(in alloc;
+        "the value is {kind}, and a loop goes over an array, a map, a string or bytes"
+    ))
 }
 
 // Whether keys are wanted of a value that has none.

@@ -43,6 +43,7 @@ impl<T: Drop> Stack<T> {
     }
 
     /// Takes the topmost value off.
+    #[inline(always)]
     pub fn pop(&mut self) -> Option<T>
         ensures { MatchOption result
             ((self.old ≡ []) × (self.new ≡ []))
@@ -96,6 +97,7 @@ impl<T: Drop> Stack<T> {
     }
 
     /// Takes so many off, in the order in which they were put there.
+    #[inline(always)]
     pub fn pop_many(&mut self, count: usize) -> TeraResult<Vec<T>>
         requires { count ≤ length self.old }
         ensures taken { IfOk result (λ all. all.items ≡ reverse (take count self.old)) }

@@ -1,7 +1,7 @@
 // What an object of the caller is lent of a rendering.
 ghost use Rattle.std.specs.Prelude.{◌≡◌, [], true, Some, None, Ok, option_map, string_bytes, bytes_eq, unwrap_or, IsTrue, IsOk};
 ghost use Rattle.std.specs.List.{list_any};
-ghost use Rattle.tera_errors.specs.Prelude.{Gives};
+ghost use Rattle.tera_errors.specs.Prelude.{Gives, Tells, message};
 ghost use Rattle.tera_values.specs.Prelude.{undefined, is_undefined, plain, escape_html};
 ghost use Rattle.tera_built_ins.specs.Prelude.{escape_or_html, escaping_of, filter_in};
 ghost use Rattle.tera_state.specs.Found.{found_value};
@@ -150,8 +150,11 @@ impl<'a, 'c, E: EscapeFn> StateOver<'a, 'c, E> {
             (filter_in plain (escaping_in view) (view.filters name.now) value.now kwargs) }
     {
         match self.filter(name) {
-            Some(filter) => filter.call(self.alloc, value, &kwargs, self.escaping()),
-            None => Err(Error::message(self.alloc, "there is no such filter")),
+            Some(filter) => match filter.call(self.alloc, value, &kwargs, self.escaping()) {
+                Ok(answer) => Ok(answer),
+                Err(error) => Err(error.of_callee(self.alloc, "filter", name)),
+            },
+            None => Err(no_filter(self.alloc, name)),
         }
     }
 
@@ -218,4 +221,12 @@ impl<'c> Scopes<'c> {
             taken,
         }
     }
+}
+
+// What the name stands for is no filter that is built in.
+#[inline(never)]
+fn no_filter(alloc: Global, name: &str) -> Error
+    ensures { Tells result message }
+{
+    Error::message_from(format!(in alloc; "there is no built-in filter `{name}`"))
 }

@@ -11,6 +11,7 @@ mod positions;
 mod progress;
 pub mod reader;
 mod statements;
+mod told;
 mod words;
 
 pub use reader::parse;

@@ -55,17 +55,6 @@ pub(crate) fn refused(tag: &[Token<'_>], why: Reason) -> Refusal
     Tokens::begin(tag, false).refuse(why)
 }
 
-/// Why a tag is refused that begins no statement and ends none.
-fn stray(tag: &[Token<'_>]) -> Reason {
-    if is_extends(tag) {
-        Reason::LateExtends
-    } else if Tokens::begin(tag, false).text().starts_with("end") {
-        Reason::NotOpen
-    } else {
-        Reason::NoStatement
-    }
-}
-
 /// What the end of a statement makes of what was read last.
 fn made<'s>(
     alloc: Global,
@@ -189,7 +178,7 @@ impl<'s> Progress<'s> {
     {
         match self.statements.last() {
             Some(statement) if statement.head.splits() => self.divide(alloc, tag),
-            _ => Err(refused(tag, Reason::NotOpen)),
+            _ => Err(refused(tag, self.unsuited())),
         }
     }
 
@@ -200,7 +189,7 @@ impl<'s> Progress<'s> {
     {
         match self.statements.last() {
             Some(statement) if statement.head.chains() => self.divide(alloc, tag),
-            _ => Err(refused(tag, Reason::NotOpen)),
+            _ => Err(refused(tag, self.unsuited())),
         }
     }
 
@@ -212,12 +201,32 @@ impl<'s> Progress<'s> {
             return Err(refused(tag, Reason::NotOpen));
         };
         if statement.body.is_some() {
-            return Err(refused(tag, Reason::NotOpen));
+            return Err(refused(tag, Reason::ElseTwice(statement.opened)));
         }
         self.surroundings = statement.surroundings;
         statement.body = Some(replace(&mut self.found, Vec::new(alloc)));
         self.statements.push(statement)?;
         Ok(())
+    }
+
+    /// Why a tag is refused that belongs to a statement, and not to the one that is open.
+    fn unsuited(&self) -> Reason {
+        match self.statements.last() {
+            Some(statement) => Reason::OtherOpen(statement.opened),
+            None => Reason::NotOpen,
+        }
+    }
+
+    /// Why a tag is refused that begins no statement and ends none.
+    fn stray(&self, tag: &[Token<'_>]) -> Reason {
+        let word = Tokens::begin(tag, false).text();
+        if is_extends(tag) {
+            Reason::LateExtends
+        } else if word.starts_with("end") || word == "<" {
+            self.unsuited()
+        } else {
+            Reason::NoStatement
+        }
     }
 
     /// The end of what is open.
@@ -227,7 +236,7 @@ impl<'s> Progress<'s> {
     {
         match self.statements.last() {
             Some(statement) if statement.head.is_ended_by(tag) => self.close(alloc, tag),
-            _ => Err(refused(tag, stray(tag))),
+            _ => Err(refused(tag, self.stray(tag))),
         }
     }
 

@@ -11,6 +11,7 @@ ghost use Rattle.tera_syntax_tree.specs.Prelude.{accepted, delimiters_of, Inside
 use crate::blocks::once;
 use crate::file::File;
 use crate::positions::{PieceSpans, pointed, refused_at};
+use crate::told::Text;
 use std::alloc::Global;
 use tera_errors::{Error, TeraResult};
 use tera_syntax_tokens::cut::next_piece;
@@ -93,7 +94,9 @@ pub fn parse<'s>(
 {
     match read(alloc, delimiters, source) {
         Ok(output) => Ok(output),
-        Err(Refusal::Syntax(why, span)) => Err(Error::syntax(alloc, why.words(), name, span)),
+        Err(Refusal::Syntax(why, span)) => {
+            Err(Text { source, delimiters }.unread(alloc, name, why, span))
+        }
         Err(Refusal::OutOfMemory) => Err(Error::out_of_memory()),
     }
 }

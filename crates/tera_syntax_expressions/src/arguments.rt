@@ -62,7 +62,7 @@ impl<'s, F: Fn(Global, &mut Tokens<'_, 's>, usize, u8) -> Read<'s>> Reader<F> {
         let name = tokens.text();
         let at = match position(found.as_slice(), name) {
             Some(at) => at,
-            None => return Err(tokens.refuse(Reason::Expected(Kind::RightParenthesis))),
+            None => return Err(tokens.refuse(Reason::ArgumentTwice)),
         };
         match argument_name(tokens) {
             Ok(()) => {}
@@ -90,7 +90,7 @@ pub(crate) fn argument_name(tokens: &mut Tokens<'_, '_>) -> Result<(), Refusal>
         Takes (λ done. text (input tokens.old)) meant result tokens.new }
 {
     if !is_word(tokens.kind()) {
-        return Err(tokens.refuse(Reason::Expected(Kind::Name)));
+        return Err(tokens.refuse(Reason::Unnamed));
     }
     tokens.take();
     tokens.expect(Kind::Assign)

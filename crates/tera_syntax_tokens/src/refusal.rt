@@ -16,8 +16,12 @@ pub enum Reason {
     NoStatement,
     /// A tag `extends` with more in front of it than white space and comments.
     LateExtends,
-    /// The end of a statement, or of a part of it, that is not open.
+    /// The end of a statement, or of a part of it, where none is open.
     NotOpen,
+    /// The same, where another statement is open, whose first tag begins at this byte.
+    OtherOpen(usize),
+    /// A second `else` of the statement whose first tag begins at this byte.
+    ElseTwice(usize),
     /// A statement is open at the end of the text. It is told of at its first tag.
     NoEnd,
     /// Another block has the same name.
@@ -32,6 +36,10 @@ pub enum Reason {
     NoLiteral,
     /// No type has this name.
     NoType,
+    /// An argument without a name in front of it.
+    Unnamed,
+    /// Another argument has the same name.
+    ArgumentTwice,
     /// A token follows what the tag is.
     TagGoesOn,
     TooDeep,
@@ -52,7 +60,12 @@ impl Reason {
             Reason::NoOperation => "no operation goes on here",
             Reason::NoStatement => "no statement begins here",
             Reason::LateExtends => "only white space and comments may stand before `extends`",
-            Reason::NotOpen => "what this tag ends or goes on with is not open here",
+            Reason::NotOpen | Reason::OtherOpen(_) => {
+                "what this tag ends or goes on with is not open here"
+            }
+            Reason::ElseTwice(_) => "what is open here has its `else` already",
+            Reason::Unnamed => "an argument stands behind its name here, as in `name=value`",
+            Reason::ArgumentTwice => "another argument has this name",
             Reason::NoEnd => "the statement that begins here has no end",
             Reason::BlockTwice => "another block has this name",
             Reason::ComponentTwice => "another component has the same name",
@@ -68,7 +81,7 @@ impl Reason {
             Reason::Expected(Kind::RightBracket) => "`]` is due here",
             Reason::Expected(Kind::RightBrace) => "`}` is due here",
             Reason::Expected(Kind::Colon) => "`:` is due here",
-            Reason::Expected(Kind::Assign) => "`=` is due here",
+            Reason::Expected(Kind::Assign) => "`=` and a value are due here, as in `name=value`",
             Reason::Expected(Kind::Else) => "`else` is due here",
             Reason::Expected(Kind::In) => "`in` is due here",
             Reason::Expected(Kind::Name) => "a name is due here",

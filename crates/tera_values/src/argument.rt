@@ -1,9 +1,10 @@
 // What an argument is read as.
-ghost use Rattle.std.specs.Prelude.{◌^◌, ◌+◌, ◌≤◌, pos, false, string_bytes, Result, Ok, IfOk, IsErr};
-ghost use Rattle.tera_errors.specs.Prelude.{Fault, Gives, MemorySuffices};
+ghost use Rattle.std.specs.Prelude.{◌≡◌, ◌^◌, ◌+◌, ◌≤◌, pos, false, string_bytes, Some, Result, Ok, IfOk, IsErr};
+ghost use Rattle.tera_errors.specs.Prelude.{Fault, Gives, MemorySuffices, invalid_argument};
 ghost use Rattle.tera_values_data.specs.Prelude.{Val, bool, int, text, array, map, vals, entries, IsScalar};
 ghost use Rattle.tera_values.specs.Arguments.{as_bool, as_int, as_natural, as_text, as_array, as_map};
 
+use crate::refusals::unfit_for;
 use std::alloc::Global;
 use tera_errors::{Error, TeraResult};
 use tera_values_data::{Map, Shape, Value, copy_items};
@@ -45,10 +46,10 @@ impl ArgFromValue for bool {
 
     ghost is_ready = { λ _. Unit {0} };
 
-    fn from_value(_alloc: Global, value: &Value) -> TeraResult<bool> {
+    fn from_value(alloc: Global, value: &Value) -> TeraResult<bool> {
         match value.shape() {
             Shape::Bool(flag) => Ok(flag),
-            _ => Err(Error::invalid_argument()),
+            _ => Err(unfit_for(alloc, "a bool")),
         }
     }
 }
@@ -60,10 +61,10 @@ impl ArgFromValue for i128 {
 
     ghost is_ready = { λ _. Unit {0} };
 
-    fn from_value(_alloc: Global, value: &Value) -> TeraResult<i128> {
+    fn from_value(alloc: Global, value: &Value) -> TeraResult<i128> {
         match value.shape() {
             Shape::Int(number) => Ok(number),
-            _ => Err(Error::invalid_argument()),
+            _ => Err(unfit_for(alloc, "an integer")),
         }
     }
 }
@@ -75,8 +76,8 @@ impl ArgFromValue for u32 {
 
     ghost is_ready = { λ _. Unit {0} };
 
-    fn from_value(_alloc: Global, value: &Value) -> TeraResult<u32> {
-        let number = natural(value, u32::MAX as u64)?;
+    fn from_value(alloc: Global, value: &Value) -> TeraResult<u32> {
+        let number = natural(alloc, value, u32::MAX as u64)?;
         Ok(number as u32)
     }
 }
@@ -88,8 +89,8 @@ impl ArgFromValue for usize {
 
     ghost is_ready = { λ _. Unit {0} };
 
-    fn from_value(_alloc: Global, value: &Value) -> TeraResult<usize> {
-        let number = natural(value, usize::MAX as u64)?;
+    fn from_value(alloc: Global, value: &Value) -> TeraResult<usize> {
+        let number = natural(alloc, value, usize::MAX as u64)?;
         Ok(number as usize)
     }
 }
@@ -102,7 +103,7 @@ impl ArgFromValue for String {
     fn from_value(alloc: Global, value: &Value) -> TeraResult<String> {
         match value.shape() {
             Shape::Text(content, _) => Ok(String::from_str(alloc, content)?),
-            _ => Err(Error::invalid_argument()),
+            _ => Err(unfit_for(alloc, "a string")),
         }
     }
 }
@@ -115,7 +116,7 @@ impl ArgFromValue for Vec<Value> {
     fn from_value(alloc: Global, value: &Value) -> TeraResult<Vec<Value>> {
         match value.shape() {
             Shape::Array(items) => copy_items(alloc, items),
-            _ => Err(Error::invalid_argument()),
+            _ => Err(unfit_for(alloc, "an array")),
         }
     }
 }
@@ -125,23 +126,34 @@ impl ArgFromValue for Map {
 
     ghost reading = { as_map };
 
-    fn from_value(_alloc: Global, value: &Value) -> TeraResult<Map> {
+    fn from_value(alloc: Global, value: &Value) -> TeraResult<Map> {
         match value.shape() {
             Shape::Map(all) => all.try_clone(),
-            _ => Err(Error::invalid_argument()),
+            _ => Err(unfit_for(alloc, "a map")),
         }
     }
 }
 
 /// The integer from 0 to the greatest that is taken; `InvalidArgument` for any other value.
 #[inline(always)]
-fn natural(value: &Value, greatest: u64) -> TeraResult<u64>
+fn natural(alloc: Global, value: &Value, greatest: u64) -> TeraResult<u64>
     ensures read { Gives (λ n. int (pos n)) result (as_natural (greatest + 1) value.now) }
     ensures high { IfOk result (λ n. n ≤ greatest) }
     ensures ready { MemorySuffices result }
 {
     match value.shape() {
         Shape::Int(number) if 0 <= number && number <= greatest as i128 => Ok(number as u64),
-        _ => Err(Error::invalid_argument()),
+        _ => Err(unfit_for_natural(alloc, greatest)),
+    }
+}
+
+// The value is no integer from 0 to the greatest one.
+#[inline(never)]
+fn unfit_for_natural(alloc: Global, greatest: u64) -> Error
+    ensures { result ≡ Some invalid_argument }
+{
+    match format!(in alloc; "an integer from 0 to {greatest}") {
+        Ok(wanted) => unfit_for(alloc, wanted.as_str()),
+        Err(_) => Error::invalid_argument(),
     }
 }

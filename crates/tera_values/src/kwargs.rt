@@ -1,16 +1,17 @@
 // Arguments by name.
-ghost use Rattle.std.specs.Prelude.{◌≡◌, [], Ok, IfErr, IfSome, IsErr, OnOk, OnErr, option_copied, option_map};
-ghost use Rattle.tera_errors.specs.Prelude.{Gives, Lacks, MemorySuffices};
+ghost use Rattle.std.specs.Prelude.{◌≡◌, [], Ok, Some, IfErr, IfSome, IsErr, OnOk, OnErr, option_copied, option_map};
+ghost use Rattle.tera_errors.specs.Prelude.{Gives, Lacks, MemorySuffices, missing_argument};
 ghost use Rattle.tera_values.specs.Named.{at_name, name_cmp, position, put, put_all, IsAscending};
 ghost use Rattle.tera_values.specs.Arguments.{read, read_needed};
 
 use crate::argument::ArgFromValue;
 use crate::context::Context;
 use crate::name::{Name, Sought};
-use std::alloc::Global;
+use crate::refusals::of_argument;
+use std::alloc::{AllocError, Global};
 use std::cmp::Ordering;
 use std::marker::Model;
-use tera_errors::{Error, TeraResult};
+use tera_errors::{Error, Guess, TeraResult};
 use tera_values_data::Value;
 
 /// Up to so many arguments are looked at one after the other.
@@ -56,8 +57,8 @@ impl Kwargs {
         })
     }
 
-    // The allocator that was given at first.
-    fn alloc(&self) -> Global {
+    /// The allocator that was given at first.
+    pub fn alloc(&self) -> Global {
         *self.entries.allocator()
     }
 
@@ -133,7 +134,10 @@ impl Kwargs {
         ensures ready { IfSome (at_name name.now self.now) T.is_ready → MemorySuffices result }
     {
         match self.value(name) {
-            Some(value) => Ok(Some(T::from_value(self.alloc(), value)?)),
+            Some(value) => match T::from_value(self.alloc(), value) {
+                Ok(argument) => Ok(Some(argument)),
+                Err(error) => Err(of_argument(self.alloc(), error, name, value)),
+            },
             None => Ok(None),
         }
     }
@@ -147,8 +151,36 @@ impl Kwargs {
         ensures ready { IfSome (at_name name.now self.now) T.is_ready → MemorySuffices result }
     {
         match self.value(name) {
-            Some(value) => T::from_value(self.alloc(), value),
-            None => Err(Error::missing_argument()),
+            Some(value) => match T::from_value(self.alloc(), value) {
+                Ok(argument) => Ok(argument),
+                Err(error) => Err(of_argument(self.alloc(), error, name, value)),
+            },
+            None => Err(self.missing(name)),
+        }
+    }
+
+    /// The fault of a call that needs the argument, which is absent. It tells of a name that is given and near to it.
+    #[inline(never)]
+    pub fn missing(&self, name: &str) -> Error
+        ensures { result ≡ Some missing_argument }
+    {
+        match self.missing_in_words(name) {
+            Ok(words) => Error::missing_argument().telling(self.alloc(), words.as_str()),
+            Err(_) => Error::missing_argument(),
+        }
+    }
+
+    fn missing_in_words(&self, name: &str) -> Result<String, AllocError> {
+        let alloc = self.alloc();
+        let mut guess = Guess::new(alloc, name);
+        for (given, _) in self.entries.iter() {
+            guess.add(given.as_str())?;
+        }
+        match guess.name() {
+            Some(given) => format!(in alloc;
+                "the call needs the argument `{name}`, and `{given}` is given"
+            ),
+            None => format!(in alloc; "the call needs the argument `{name}`"),
         }
     }
 }

@@ -8,6 +8,7 @@ pub mod kwargs;
 pub mod laws;
 pub mod name;
 pub mod number;
+pub mod refusals;
 pub mod string_input;
 
 pub use argument::ArgFromValue;

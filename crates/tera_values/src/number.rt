@@ -1,6 +1,6 @@
 // Arithmetic. What is not an integer is refused, and so is what no `i128` holds: a `Message` each time.
 ghost use Rattle.std.specs.Prelude.{◌≡◌, ℤ, pos, ◌≤ℤ◌, Option, Result, IsOk};
-ghost use Rattle.tera_errors.specs.Prelude.{Gives, Fault};
+ghost use Rattle.tera_errors.specs.Prelude.{Gives, Fault, Tells, message};
 ghost use Rattle.tera_values_data.specs.Prelude.{Val};
 ghost use Rattle.tera_values.specs.Number.{told, integers, on_integers, quotient, remainder, exact_quotient, power, add, sub, mul, div, floor_div, rem, pow, negate};
 
@@ -24,23 +24,61 @@ fn integers(left: &Value, right: &Value) -> Option<(i128, i128)>
 
 /// The number as a value, or an error.
 #[inline(always)]
-fn answer(alloc: Global, number: Option<i128>) -> TeraResult<Value>
+fn answer(alloc: Global, sign: &str, number: Option<i128>) -> TeraResult<Value>
     ensures value { Gives (λ v. v) result (told number) }
     ensures ready { IsOk (told number) → IsOk result }
 {
     match number {
         Some(number) => Ok(Value::from_int(number)),
-        None => Err(Error::message(alloc, "no integer is the result")),
+        None => Err(no_number(alloc, sign)),
     }
 }
 
-/// What is calculated from the two integers, or an error with this message where there are not two.
+// The operands of the operator with this sign are not two integers.
+#[inline(never)]
+fn not_two(alloc: Global, sign: &str, left: &Value, right: &Value) -> Error
+    ensures { Tells result message }
+{
+    let (left, right) = (left.in_words(), right.in_words());
+    let also = if sign == "+" {
+        " (`~` joins texts)"
+    } else {
+        ""
+    };
+    Error::message_from(format!(in alloc;
+        "`{sign}` takes two integers, and is given {left} and {right}{also}"
+    ))
+}
+
+// What the operator with this sign makes of two integers is none.
+#[inline(never)]
+fn no_number(alloc: Global, sign: &str) -> Error
+    ensures { Tells result message }
+{
+    let why = match sign {
+        "/" =>
+            "the quotient is no integer, and there are no floating-point numbers (`//` rounds down)",
+        "**" => "the power is no integer of at most 128 bits",
+        _ => "the result is no integer of at most 128 bits",
+    };
+    Error::message(alloc, why)
+}
+
+#[inline(never)]
+fn no_sign(alloc: Global, value: &Value) -> Error
+    ensures { Tells result message }
+{
+    let kind = value.in_words();
+    Error::message_from(format!(in alloc; "`-` takes an integer, and is given {kind}"))
+}
+
+/// What is calculated from the two integers, or an error that names the operator's sign where there are not two.
 #[inline(always)]
 fn calculated<F: FnOnce(i128, i128) -> Option<i128>>(
     alloc: Global,
     left: &Value,
     right: &Value,
-    message: &str,
+    sign: &str,
     calculate: F,
 ) -> TeraResult<Value>
     requires { F.IsAlwaysCallable calculate }
@@ -52,8 +90,8 @@ fn calculated<F: FnOnce(i128, i128) -> Option<i128>>(
         IsOk (on_integers meant (integers left.now right.now)) → IsOk result }
 {
     match integers(left, right) {
-        Some((a, b)) => answer(alloc, calculate(a, b)),
-        None => Err(Error::message(alloc, message)),
+        Some((a, b)) => answer(alloc, sign, calculate(a, b)),
+        None => Err(not_two(alloc, sign, left, right)),
     }
 }
 
@@ -128,13 +166,7 @@ pub fn add(alloc: Global, left: &Value, right: &Value) -> TeraResult<Value>
     ensures value { Gives (λ v. v) result (add left.now right.now) }
     ensures ready { IsOk (add left.now right.now) → IsOk result }
 {
-    calculated(
-        alloc,
-        left,
-        right,
-        "only integers are added",
-        i128::checked_add,
-    )
+    calculated(alloc, left, right, "+", i128::checked_add)
 }
 
 /// The difference.
@@ -143,13 +175,7 @@ pub fn sub(alloc: Global, left: &Value, right: &Value) -> TeraResult<Value>
     ensures value { Gives (λ v. v) result (sub left.now right.now) }
     ensures ready { IsOk (sub left.now right.now) → IsOk result }
 {
-    calculated(
-        alloc,
-        left,
-        right,
-        "only integers are subtracted",
-        i128::checked_sub,
-    )
+    calculated(alloc, left, right, "-", i128::checked_sub)
 }
 
 /// The product.
@@ -158,13 +184,7 @@ pub fn mul(alloc: Global, left: &Value, right: &Value) -> TeraResult<Value>
     ensures value { Gives (λ v. v) result (mul left.now right.now) }
     ensures ready { IsOk (mul left.now right.now) → IsOk result }
 {
-    calculated(
-        alloc,
-        left,
-        right,
-        "only integers are multiplied",
-        i128::checked_mul,
-    )
+    calculated(alloc, left, right, "*", i128::checked_mul)
 }
 
 /// The exact quotient; an error where it is not whole, as at a zero divisor.
@@ -172,13 +192,7 @@ pub fn div(alloc: Global, left: &Value, right: &Value) -> TeraResult<Value>
     ensures value { Gives (λ v. v) result (div left.now right.now) }
     ensures ready { IsOk (div left.now right.now) → IsOk result }
 {
-    calculated(
-        alloc,
-        left,
-        right,
-        "only integers are divided",
-        exact_quotient,
-    )
+    calculated(alloc, left, right, "/", exact_quotient)
 }
 
 /// Euclid's quotient; an error at a zero divisor.
@@ -186,7 +200,7 @@ pub fn floor_div(alloc: Global, left: &Value, right: &Value) -> TeraResult<Value
     ensures value { Gives (λ v. v) result (floor_div left.now right.now) }
     ensures ready { IsOk (floor_div left.now right.now) → IsOk result }
 {
-    calculated(alloc, left, right, "only integers are divided", quotient)
+    calculated(alloc, left, right, "//", quotient)
 }
 
 /// Euclid's remainder, which is never negative; an error at a zero divisor.
@@ -194,7 +208,7 @@ pub fn rem(alloc: Global, left: &Value, right: &Value) -> TeraResult<Value>
     ensures value { Gives (λ v. v) result (rem left.now right.now) }
     ensures ready { IsOk (rem left.now right.now) → IsOk result }
 {
-    calculated(alloc, left, right, "only integers are divided", remainder)
+    calculated(alloc, left, right, "%", remainder)
 }
 
 /// The power; an error at a negative exponent. `0 ** 0` is 1.
@@ -202,13 +216,7 @@ pub fn pow(alloc: Global, left: &Value, right: &Value) -> TeraResult<Value>
     ensures value { Gives (λ v. v) result (pow left.now right.now) }
     ensures ready { IsOk (pow left.now right.now) → IsOk result }
 {
-    calculated(
-        alloc,
-        left,
-        right,
-        "only integers are raised to powers",
-        power,
-    )
+    calculated(alloc, left, right, "**", power)
 }
 
 /// The number with the other sign.
@@ -217,7 +225,7 @@ pub fn negate(alloc: Global, value: &Value) -> TeraResult<Value>
     ensures ready { IsOk (negate value.now) → IsOk result }
 {
     match value.shape() {
-        Shape::Int(number) => answer(alloc, number.checked_neg()),
-        _ => Err(Error::message(alloc, "only an integer has a sign")),
+        Shape::Int(number) => answer(alloc, "-", number.checked_neg()),
+        _ => Err(no_sign(alloc, value)),
     }
 }

@@ -6,10 +6,11 @@ ghost use Rattle.tera_values_data.specs.View.{key_view};
 ghost use Rattle.tera_values_data.specs.Access.{IsScalar, is_undefined, is_safe, kind_of, kind_name, int_of, text_of, truthy, count, key_of, value_of_key, attr};
 
 use crate::key::Key;
+use crate::refusals::no_key;
 use crate::shape::Shape;
 use crate::value::{Value, ValueKind};
 use std::alloc::Global;
-use tera_errors::{Error, TeraResult};
+use tera_errors::TeraResult;
 
 pub(crate) fn char_count(text: &str) -> usize
     ensures { result ≡ length (chars text.now) }
@@ -133,11 +134,12 @@ impl Value {
             Shape::Bool(b) => Ok(Key::Bool(b)),
             Shape::Int(n) => Ok(Key::Int(n)),
             Shape::Text(t, _) => Ok(Key::Text(String::from_str(alloc, t)?)),
-            _ => Err(Error::message(alloc, "not a key")),
+            _ => Err(no_key(alloc, self)),
         }
     }
 
     /// A key as a value; a text without a mark.
+    #[inline(never)]
     pub fn from_key(alloc: Global, key: &Key) -> TeraResult<Value>
         ensures value { Gives (λ v. v) result (Ok (value_of_key (key_view key.now))) }
         ensures ready { IsScalar (value_of_key (key_view key.now)) → IsOk result }

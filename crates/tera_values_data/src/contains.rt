@@ -6,11 +6,12 @@ ghost use Rattle.tera_values_data.specs.Access.{key_of};
 ghost use Rattle.tera_values_data.specs.Slices.{is_part, has_item, has_key, contains};
 
 use crate::key::Wanted;
+use crate::refusals::{holds_nothing, no_part};
 use crate::shape::Shape;
 use crate::value::{Map, Value};
 use memchr::memmem;
 use std::alloc::Global;
-use tera_errors::{Error, TeraResult};
+use tera_errors::TeraResult;
 
 fn has_item(items: &[Value], wanted: &Value) -> bool
     ensures { result ≡ has_item wanted.now (vals items.now) }
@@ -51,10 +52,10 @@ impl Value {
             Shape::Array(items) => Ok(has_item(items, wanted)),
             Shape::Text(content, _) => match wanted.shape() {
                 Shape::Text(part, _) => Ok(has_part(content, part)),
-                _ => Err(Error::message(alloc, "a text has only texts as parts")),
+                _ => Err(no_part(alloc, wanted)),
             },
             Shape::Map(all) => Ok(has_key(all, wanted)),
-            _ => Err(Error::message(alloc, "only arrays, texts and maps hold values")),
+            _ => Err(holds_nothing(alloc, self)),
         }
     }
 }

@@ -8,10 +8,11 @@ ghost use Rattle.tera_values_data.specs.Items.{position_of, char_text, item_at, 
 
 use crate::access::char_count;
 use crate::key::Wanted;
+use crate::refusals::{no_key, no_position, without_items};
 use crate::shape::Shape;
 use crate::value::{Map, Value};
 use std::alloc::Global;
-use tera_errors::{Error, TeraResult};
+use tera_errors::TeraResult;
 
 /// Where the integer points in a list of so many items; a negative one counts from the end.
 fn position(index: i128, length: usize) -> Option<usize>
@@ -108,7 +109,7 @@ fn entry_in(alloc: Global, all: &Map, index: &Value) -> TeraResult<Value>
         Shape::Bool(flag) => value_in(all, &Wanted::Bool(flag)),
         Shape::Int(number) => value_in(all, &Wanted::Int(number)),
         Shape::Text(name, _) => value_in(all, &Wanted::Text(name)),
-        _ => Err(Error::message(alloc, "the index is no key")),
+        _ => Err(no_key(alloc, index)),
     }
 }
 
@@ -122,17 +123,17 @@ impl Value {
             Shape::Map(all) => entry_in(alloc, all, index),
             Shape::Array(items) => match index.shape() {
                 Shape::Int(n) => item_in(items, n),
-                _ => Err(Error::message(alloc, "the index is no integer")),
+                _ => Err(no_position(alloc, self, index)),
             },
             Shape::Text(text, _) => match index.shape() {
                 Shape::Int(n) => char_in(alloc, text, n),
-                _ => Err(Error::message(alloc, "the index is no integer")),
+                _ => Err(no_position(alloc, self, index)),
             },
             Shape::Bytes(bytes) => match index.shape() {
                 Shape::Int(n) => Ok(byte_in(bytes, n)),
-                _ => Err(Error::message(alloc, "the index is no integer")),
+                _ => Err(no_position(alloc, self, index)),
             },
-            _ => Err(Error::message(alloc, "the value has no items")),
+            _ => Err(without_items(alloc, self)),
         }
     }
 }

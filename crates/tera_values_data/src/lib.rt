@@ -12,6 +12,7 @@ pub mod map;
 pub mod order;
 pub mod path;
 pub mod print;
+mod refusals;
 pub mod shape;
 pub mod slice;
 pub mod table;

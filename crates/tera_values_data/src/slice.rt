@@ -4,6 +4,7 @@ ghost use Rattle.std.specs.Str.{chars, encode_utf8_all};
 ghost use Rattle.tera_errors.specs.Prelude.{Gives};
 ghost use Rattle.tera_values_data.specs.Slices.{before, through, bound, upward, downward, positions, picked_items, picked_chars, slice, reversed};
 
+use crate::refusals::{without_order, without_slices};
 use crate::shape::Shape;
 use crate::value::Value;
 use std::alloc::Global;
@@ -192,7 +193,7 @@ impl Value {
                 let part = slice_text(alloc, content, start, end, step)?;
                 Value::string(alloc, part.as_str())
             }
-            _ => Err(Error::message(alloc, "only arrays and texts have slices")),
+            _ => Err(without_slices(alloc, self)),
         }
     }
 
@@ -206,7 +207,7 @@ impl Value {
                 let backward = reversed_text(alloc, content)?;
                 Value::string(alloc, backward.as_str())
             }
-            _ => Err(Error::message(alloc, "only arrays and texts are reversed")),
+            _ => Err(without_order(alloc, self)),
         }
     }
 }

@@ -183,6 +183,7 @@ impl Value {
     }
 
     /// A text without the safe mark.
+    #[inline(always)]
     pub fn string(alloc: Global, content: &str) -> TeraResult<Value>
         ensures { Gives (λ v. v) result (Ok (text content.now false)) }
     {
@@ -192,6 +193,7 @@ impl Value {
     }
 
     /// A text that is taken as markup already: it goes out as it is.
+    #[inline(always)]
     pub fn safe_string(alloc: Global, content: &str) -> TeraResult<Value>
         ensures { Gives (λ v. v) result (Ok (text content.now true)) }
     {

@@ -2,13 +2,13 @@
 use super::is_true;
 use std::alloc::Global;
 use tera::{
-    CallerObjects, Chunk, Compiler, Delimiters, ForLoop, Instruction, Name, ParserOutput, Steps,
-    Template, TeraResult, Value, VirtualMachine, parse,
+    Block, Chunk, Compiler, Delimiters, Expression, ForLoop, ForLoopIterator, Instruction, Name,
+    Node, ParserOutput, Steps, Template, TeraResult, Value, parse,
 };
 
 /// Whether the loop goes over three items.
 fn goes_over_three(opened: &ForLoop) -> bool {
-    let mut items = opened.items();
+    let mut items: ForLoopIterator<'_> = opened.items();
     items.next().is_some()
         && items.next().is_some()
         && items.next().is_some()
@@ -29,6 +29,38 @@ fn is_looped(alloc: Global) -> TeraResult<bool> {
 #[test]
 fn loops_go_over_letters(rt: HostRuntime) {
     assert!(rt; is_true(is_looped(rt.alloc())));
+}
+
+/// Whether this is the number that a template's author wrote.
+fn is_one(expression: &Expression<'_>) -> bool {
+    matches!(expression, Expression::Int { value: 1, .. })
+}
+
+/// Whether the block has this name and prints 1.
+fn prints_one(block: &Block<'_>, name: &str) -> bool {
+    match block.body.as_slice().first() {
+        Some(Node::Print { value }) => block.name == name && is_one(value),
+        _ => false,
+    }
+}
+
+fn is_block(alloc: Global) -> TeraResult<bool> {
+    let delimiters = Delimiters::standard(alloc)?;
+    let output = parse(
+        alloc,
+        "t",
+        "{% block b %}{{ 1 }}{% endblock %}",
+        &delimiters,
+    )?;
+    match output.nodes.as_slice().first() {
+        Some(Node::Block(block)) => Ok(prints_one(block, "b")),
+        _ => Ok(false),
+    }
+}
+
+#[test]
+fn blocks_are_nodes(rt: HostRuntime) {
+    assert!(rt; is_true(is_block(rt.alloc())));
 }
 
 /// Whether the code is one instruction that puts out a text.
@@ -69,12 +101,4 @@ fn texts_are_compiled(rt: HostRuntime) {
 /// The name of a template, where one is at hand.
 pub fn name_of(template: &Template) -> &str {
     template.name.as_str()
-}
-
-/// A machine that escapes, and one that does not: what they run wants a proof of its caller.
-pub fn machines(alloc: Global, objects: &CallerObjects) -> [VirtualMachine<'_, CallerObjects>; 2] {
-    [
-        VirtualMachine::new(alloc, objects),
-        VirtualMachine::new_with_autoescape(alloc, false, objects),
-    ]
 }

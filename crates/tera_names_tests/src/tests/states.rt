@@ -2,8 +2,8 @@
 use super::{is_integer, is_true};
 use std::alloc::Global;
 use tera::{
-    CallerObjects, Context, Kwargs, State, StoredFilter, StoredFunction, StringInput, TeraResult,
-    Value, escape_html,
+    CallerObjects, Context, Kwargs, State, StoredFilter, StoredFunction, StoredTest, StringInput,
+    TeraResult, Value, escape_html,
 };
 
 /// What a state over this context tells, in which `name` is `<`.
@@ -50,10 +50,12 @@ fn are_called(alloc: Global, objects: &CallerObjects) -> TeraResult<bool> {
     let state: State<'_> = State::new(&context);
     let filter: Option<StoredFilter<'_>> = objects.filter("abs");
     let function: Option<StoredFunction<'_>> = objects.function("range");
-    match (filter, function) {
-        (Some(filter), Some(function)) => Ok(
+    let test: Option<StoredTest<'_>> = objects.test("odd");
+    match (filter, function, test) {
+        (Some(filter), Some(function), Some(test)) => Ok(
             !filter.is_safe()
                 && !function.is_safe()
+                && is_true(test.call(&Value::from_int(7), Kwargs::new(alloc), &state))
                 && is_integer(
                     filter.call(&Value::from_int(-7), Kwargs::new(alloc), &state),
                     7,

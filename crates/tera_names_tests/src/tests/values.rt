@@ -32,6 +32,14 @@ fn a_number_is_told_and_read(rt: HostRuntime) {
     assert!(rt; is_seven(rt.alloc(), &Value::from_int(7)));
 }
 
+#[test]
+fn nothing_is_told(rt: HostRuntime) {
+    let nothing = Value::undefined();
+    assert!(rt;
+        nothing.kind() == ValueKind::Undefined && !nothing.is_truthy() && nothing.len().is_none()
+    );
+}
+
 fn are_reckoned(alloc: Global, seven: &Value, two: &Value) -> bool {
     is_integer(number::add(alloc, seven, two), 9)
         && is_integer(number::sub(alloc, seven, two), 5)

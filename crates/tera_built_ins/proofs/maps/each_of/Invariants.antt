@@ -1,10 +1,7 @@
-use Rattle.std.proofs.Common.{◌≡◌, Ok, map, take}
-use Rattle.tera_errors.specs.Answer.{Gives}
-use Rattle.tera_values.specs.Val.{Val, KeyVal}
-use Rattle.tera_values.specs.View.{key_view}
+use Rattle.std.proofs.Common.{◌≡◌, map, take}
+use Rattle.tera_values.specs.Alphabet.{plain}
+use Rattle.tera_built_ins.specs.Maps.{part_value}
 use Rattle.tera_built_ins.proofs.maps.each_of.Given as goal
 
 abbrev pub invariant-loop-position : goal.invariant-loop-position
-invariant-loop-position g l = (meant : KeyVal × Val → Val)
-    → ((key : _) (item : _) (answer : _) → goal.F-post g l.make key item answer → Gives (λ v. v) answer (Ok (meant (key_view key.now, item.now))))
-    → l.items.items ≡ map meant (take l.position l.all)
+invariant-loop-position l = l.items.items ≡ map (part_value plain l.part) (take l.position l.all)

@@ -15,7 +15,7 @@ use Rattle.tera_registry.proofs.Checked.{climbed-says, climbed-faultless, lacks-
 use Rattle.tera_registry.proofs.link.link.Goals as goal
 
 pub returns-in-Err-clause-answer : goal.returns-in-Err-clause-answer
-returns-in-Err-clause-answer g c = climbed-says c.in-Err.fault g.registry c.in-Err.ensures.answer
+returns-in-Err-clause-answer g c = rw c.in_words.ensures (climbed-says c.in-Err.fault g.registry c.in-Err.ensures.answer)
 
 pub least_circle-requires : goal.least_circle-requires
 least_circle-requires g c =
@@ -71,9 +71,21 @@ table_of-requires g c =
       climbable-served (g.O.Objects.engine c.args.objects.now) ts ps g.registry _ (sym c.requires.1.1) c.requires.1.0 ups (grounded g.registry (climbed-faultless g.registry c.in-Ok.ensures.answer)),
     )
 
+pub all_missing-requires : goal.all_missing-requires
+all_missing-requires g c = λ κs within.
+    let ts = c.args.templates.now in
+    let ps = c.args.prefixes.now in
+    let ups = all-ups ts ps _ _ c.as_slice-then-any_lacks.ensures.value c.in_ok-ups.ensures in (
+      within,
+      (
+        c.requires.1.0,
+        climbable-served (g.O.Objects.engine c.args.objects.now) ts ps g.registry _ (sym c.requires.1.1) c.requires.1.0 ups (grounded g.registry (climbed-faultless g.registry c.in-Ok.ensures.answer)),
+      ),
+    )
+
 pub returns-then-any_lacks-clause-answer : goal.returns-then-any_lacks-clause-answer
 returns-then-any_lacks-clause-answer g c =
-    told c.message.result (accepted g.registry) c.message.ensures (lacks-says g.registry c.in-Ok.ensures.answer (sym c.if-any_lacks.ensures))
+    told c.all_missing.result (accepted g.registry) c.all_missing.ensures (lacks-says g.registry c.in-Ok.ensures.answer (sym c.if-any_lacks.ensures))
 
 pub returns-clause-answer : goal.returns-clause-answer
 returns-clause-answer g c = keeps-all g.registry c.in-Ok.ensures.answer (sym c.if-any_lacks.ensures)

@@ -8,3 +8,6 @@ ghost-any_lacks g a = g.registry
 
 abbrev pub ghost-table_of : goal.ghost-table_of
 ghost-table_of g a = g.registry
+
+abbrev pub ghost-all_missing : goal.ghost-all_missing
+ghost-all_missing g a = g.registry

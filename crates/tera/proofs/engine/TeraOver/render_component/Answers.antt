@@ -7,8 +7,8 @@ use Rattle.tera.specs.Registry.{registry_of}
 use Rattle.tera.proofs.ByComponent.{finds-itself, found-named, renders-component, no_component}
 use Rattle.tera.proofs.engine.TeraOver.render_component.Goals as goal
 
-pub render_found_component-requires-clause-defined : goal.render_found_component-requires-clause-defined
-render_found_component-requires-clause-defined g c =
+pub render_found_component-answer-requires-clause-defined : goal.render_found_component-answer-requires-clause-defined
+render_found_component-answer-requires-clause-defined g c =
     let r = registry_of g.O.Objects.engine c.args.self.now in
     finds-itself r c.args.name.now c.in-Some.found (c.in-Some.ensures.defined r)
 
@@ -17,10 +17,10 @@ returns-in-Some g c =
     let r = registry_of g.O.Objects.engine c.args.self.now in
     let body = lent_text c.args.body in
     let same = found-named r c.args.name.now c.in-Some.found (c.in-Some.ensures.defined r) in
-    let P : Name → Type 0 = λ n. Gives (string_bytes {Z = Global}) c.render_found_component.result (render_component r n c.args.args.now c.args.implicits.now body c.args.autoescape) in
-    renders-component r c.args.name.now c.args.args.now c.args.implicits.now body c.args.autoescape (string_bytes {Z = Global}) c.render_found_component.result (subst P same c.render_found_component.ensures)
+    let P : Name → Type 0 = λ n. Gives (string_bytes {Z = Global}) c.render_found_component-answer.result (render_component r n c.args.args.now c.args.implicits.now body c.args.autoescape) in
+    rw c.tell.ensures (renders-component r c.args.name.now c.args.args.now c.args.implicits.now body c.args.autoescape (string_bytes {Z = Global}) c.render_found_component-answer.result (subst P same c.render_found_component-answer.ensures))
 
 pub returns-in-None : goal.returns-in-None
 returns-in-None g c =
     let r = registry_of g.O.Objects.engine c.args.self.now in
-    no_component r c.args.name.now c.args.args.now c.args.implicits.now (lent_text c.args.body) c.args.autoescape c.component_not_found.result c.component_not_found.ensures (c.in-None.ensures.defined r)
+    no_component r c.args.name.now c.args.args.now c.args.implicits.now (lent_text c.args.body) c.args.autoescape c.no_component.result c.no_component.ensures (c.in-None.ensures.defined r)

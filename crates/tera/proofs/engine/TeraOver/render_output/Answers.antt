@@ -26,13 +26,13 @@ returns-then-lacks_a_callee g c =
     let tree : Tree = tree_of c.args.output.now in
     let lacks = subst (λ (ts : Templates). c.lacks_a_callee.result ≡ lacks_a_callee r.engine (is_component_beside (with_templates r ts) tree) tree) c.in_ok-text.ensures.templates (c.lacks_a_callee.ensures r tree one_off_name refl code own c.requires.1.1) in
     let same = ap (λ (s : Subject). lacks_a_callee s.world.registry.engine (is_there s.world) (tree_beside s)) c.requires.1.0 in
-    lacking-says g.about c.message.result (same ∙ sym lacks ∙ c.if-lacks_a_callee.true) c.message.ensures
+    lacking-says g.about c.all_missing.result (same ∙ sym lacks ∙ c.if-lacks_a_callee.true) c.all_missing.ensures
 
 pub returns-then-misses_an_include : goal.returns-then-misses_an_include
 returns-then-misses_an_include g c =
     let same = ap (λ (s : Subject). misses_an_include s.world.registry (tree_beside s)) c.requires.1.0 in
     let missing = same ∙ sym (c.misses_an_include.ensures (registry_of g.O.Objects.engine c.args.self.now)) ∙ c.if-misses_an_include.true in
-    missing-says g.about c.message-then-misses_an_include.result missing c.message-then-misses_an_include.ensures
+    missing-says g.about c.all_missing-then-misses_an_include.result missing c.all_missing-then-misses_an_include.ensures
 
 pub returns : goal.returns
 returns g c =

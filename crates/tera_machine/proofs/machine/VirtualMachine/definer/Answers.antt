@@ -20,9 +20,9 @@ returns-then-has-clause-finds g c = λ conf.
     let place = place_at m c.args.chunk.now.file c.args.blocks.now conf in
     let number = sym c.definers.ensures.number ∙ sym c.in-Some.ensures.number in
     let is = c.has.ensures ∙ among_by_number w.registry (template_of m) name c.in-Some.definer.number number c.args.blocks.now.opened.inner c.requires.numbered in
-    let told = subst (λ (f : Name). Tells c.rendering-then-has.result (rendering_error (record { file = f; span = span }))) c.file-then-has.ensures c.rendering-then-has.ensures in
+    let told = subst (λ (f : Name). Tells c.open_block.result (rendering_error (record { file = f; span = span }))) c.file-then-has.ensures c.open_block.ensures in
     let refused = open_already w place name span v (sym is ∙ c.if-has.true) in
-    subst (λ a. FindsBody w place a v (Err c.rendering-then-has.result)) (sym c.in-Block.is) (told_body w place (asked.Block c.in-Block.name span) v c.rendering-then-has.result (fault_in place span) refused told)
+    subst (λ a. FindsBody w place a v (Err c.open_block.result)) (sym c.in-Block.is) (told_body w place (asked.Block c.in-Block.name span) v c.open_block.result (fault_in place span) refused told)
 
 pub returns-else-has-clause-finds : goal.returns-else-has-clause-finds
 returns-else-has-clause-finds g c = λ conf.

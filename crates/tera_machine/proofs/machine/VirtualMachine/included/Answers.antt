@@ -17,8 +17,8 @@ returns-in_default g c = λ conf.
     let place = place_at c.args.self.now (code_of c.args.here).file c.args.blocks.now conf in
     let none = found_in w c.args.here name None c.requires.linked (c.in_default.ensures w.registry name (taken_before c.requires.takes)) in
     let file : c.file.result.now ≡ (code_of c.args.here).file = c.file.ensures ∙ ap (λ (l : Listing). l.file) c.chunk.ensures in
-    let told = subst (λ (f : Name). Tells c.rendering.result (rendering_error (record { file = f; span = c.args.asked.span }))) file c.rendering.ensures in
-    is_nowhere w place name c.args.asked.span (config_of conf).run.vars c.rendering.result none told
+    let told = subst (λ (f : Name). Tells c.no_template.result (rendering_error (record { file = f; span = c.args.asked.span }))) file c.no_template.ensures in
+    is_nowhere w place name c.args.asked.span (config_of conf).run.vars c.no_template.result none told
 
 pub returns-then-has : goal.returns-then-has
 returns-then-has g c = λ conf.
@@ -28,8 +28,8 @@ returns-then-has g c = λ conf.
     let leads = found_in w c.args.here name (Some c.in-Some.found) c.requires.linked (c.in-Some.ensures w.registry name (taken_before c.requires.takes)) in
     let is = c.has.ensures ∙ among_by_position c.in-Some.found leads.among c.args.blocks.now.included.inner c.requires.included in
     let file : c.file-then-has.result.now ≡ (code_of c.args.here).file = c.file-then-has.ensures ∙ ap (λ (l : Listing). l.file) c.chunk-then-has.ensures in
-    let told = subst (λ (f : Name). Tells c.rendering-then-has.result (rendering_error (record { file = f; span = c.args.asked.span }))) file c.rendering-then-has.ensures in
-    is_open w place name c.args.asked.span (config_of conf).run.vars c.in-Some.found leads c.rendering-then-has.result (sym is ∙ c.if-has.true) told
+    let told = subst (λ (f : Name). Tells c.open_template.result (rendering_error (record { file = f; span = c.args.asked.span }))) file c.open_template.ensures in
+    is_open w place name c.args.asked.span (config_of conf).run.vars c.in-Some.found leads c.open_template.result (sym is ∙ c.if-has.true) told
 
 pub returns : goal.returns
 returns g c = λ conf.

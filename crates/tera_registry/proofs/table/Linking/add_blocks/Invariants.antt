@@ -12,5 +12,5 @@ invariant-loop-block g l = record {
   right : AreLinked l.self.targets l.entries.items;
 }
 
-abbrev pub ghost-above : goal.ghost-above
-ghost-above g a = g.registry
+abbrev pub ghost-block_entry : goal.ghost-block_entry
+ghost-block_entry g a = g.registry

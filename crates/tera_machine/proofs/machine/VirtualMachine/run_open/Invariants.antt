@@ -2,7 +2,7 @@ use Rattle.std.proofs.Common.{◌≡◌, ◌+◌, ◌-◌, ◌*◌, length}
 use Rattle.tera_registry.specs.HandedOut.{code_of}
 use Rattle.tera_machine.specs.Subject.{Belong}
 use Rattle.tera_machine.specs.Open.{Running}
-use Rattle.tera_machine.proofs.machine.VirtualMachine.run_counted.Given as goal
+use Rattle.tera_machine.proofs.machine.VirtualMachine.run_open.Given as goal
 
 abbrev pub invariant-bodies : goal.invariant-bodies
 invariant-bodies g l =

@@ -3,10 +3,10 @@ use Rattle.tera_registry.specs.HandedOut.{code_of}
 use Rattle.tera_machine.specs.Config.{config_of}
 use Rattle.tera_machine.specs.Flow.{flow_of}
 use Rattle.tera_machine.proofs.Open.{begins, ready, is_small, few, broke, on, skip_fits, skips, to_fits, to, out, takes_requested, take_broke, goes_in, all_over, all_stays, texts_open, outer_open, belong_again, goes_out, lacked_all}
-use Rattle.tera_machine.proofs.machine.VirtualMachine.run_counted.Goals as goal
+use Rattle.tera_machine.proofs.machine.VirtualMachine.run_open.Goals as goal
 
 pub bodies-init : goal.bodies-init
-bodies-init g c = (c.chunk-chunk.ensures, (c.requires.belong, rw c.chunk-chunk.ensures (rw c.new-open.ensures (begins g.M.Limit.most g.M.Limit.world c.args.self.now (code_of c.args.first) c.args.blocks.now c.args.configuration.now c.args.steps.now c.requires.linked c.requires.within))))
+bodies-init g c = (c.chunk-chunk.ensures, (c.requires.belong, rw c.chunk-chunk.ensures (rw c.requires.none (begins g.M.Limit.most g.M.Limit.world c.args.self.now (code_of c.args.first) c.args.blocks.now c.args.configuration.now c.args.steps.now c.requires.linked c.requires.within))))
 
 pub perform-requires-clause-ready : goal.perform-requires-clause-ready
 perform-requires-clause-ready g c = ready g.O.Objects.engine c.requires.engine c.bodies.invariant.1.1 c.in-Some.ensures.found

@@ -1,7 +1,7 @@
 // Where in a template's text instructions stand, for what people are told.
 use crate::chunk::Chunk;
 use crate::instruction::Instruction;
-use tera_values::Span;
+use tera_values::{Name, Span};
 
 impl Chunk {
     // The instruction at this position. It is not handed out, so that it isn't counted.
@@ -43,10 +43,10 @@ impl Chunk {
         }
     }
 
-    /// The same, where the instruction puts out the block of this name.
-    pub fn span_of_block(&self, position: usize, block: &str) -> Option<Span> {
+    /// The block that the instruction at this position puts out, and where it is named; none where it puts out no block.
+    pub fn block_at(&self, position: usize) -> Option<(&Name, Span)> {
         match self.instruction_at(position)? {
-            Instruction::TakeBlock { name, span } if name.as_name().as_str() == block => Some(span),
+            Instruction::TakeBlock { name, span } => Some((name.as_name(), span)),
             _ => None,
         }
     }

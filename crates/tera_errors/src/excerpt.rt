@@ -96,11 +96,8 @@ fn end_of(text: &str) -> &str {
 
 // As many blanks as the number has digits.
 fn write_blanks<W: fmt::Write>(f: &mut fmt::Formatter<W>, number: usize) -> fmt::Result {
-    let mut rest = number;
-    f.write_char(' ')?;
-    while rest >= 10 {
+    for _ in 0..=number.checked_ilog10().unwrap_or(0) {
         f.write_char(' ')?;
-        rest /= 10;
     }
     Ok(())
 }

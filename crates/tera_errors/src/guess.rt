@@ -5,6 +5,9 @@ use strsim::osa_distance;
 /// As many letters may differ at most.
 const MOST: usize = 2;
 
+/// The most bytes of a name that is guessed at: the distance of two long names would take long to reckon.
+const LONGEST: usize = 64;
+
 /// The nearest of the names that were tried, if one is near.
 #[derive(Drop)]
 pub struct Guess<'a> {
@@ -27,7 +30,7 @@ impl<'a> Guess<'a> {
 
     /// Tries a name that is there.
     pub fn add(&mut self, name: &str) -> Result<(), AllocError> {
-        if name.len().abs_diff(self.wanted.len()) > 4 * MOST {
+        if self.wanted.len() > LONGEST || name.len().abs_diff(self.wanted.len()) > 4 * MOST {
             return Ok(());
         }
         let distance = osa_distance(self.alloc, self.wanted, name)?;

@@ -5,6 +5,7 @@ use crate::marked::marked_if;
 use crate::objects::Objects;
 use crate::over::CallerObjects;
 use std::alloc::{AllocError, Global};
+use tera_errors::Guess;
 use tera_values::{Error, Shape, TeraResult, Value};
 
 impl Objects for CallerObjects {
@@ -73,5 +74,17 @@ impl Objects for CallerObjects {
         };
         let state = lent(self, &call);
         marked_if(function.is_safe(), function.call(call.arguments, &state))
+    }
+
+    fn guess_filter(&self, guess: &mut Guess<'_>) -> Result<(), AllocError> {
+        self.filters.table.guess(guess)
+    }
+
+    fn guess_test(&self, guess: &mut Guess<'_>) -> Result<(), AllocError> {
+        self.tests.guess(guess)
+    }
+
+    fn guess_function(&self, guess: &mut Guess<'_>) -> Result<(), AllocError> {
+        self.functions.guess(guess)
     }
 }

@@ -7,6 +7,7 @@ ghost use Rattle.tera_objects.specs.Called.{filtered, tested, called};
 
 use crate::call::Call;
 use std::alloc::{AllocError, Global};
+use tera_errors::Guess;
 use tera_values::{TeraResult, Value};
 
 /// The escape of an engine, and its filters, tests and functions: what is built in, and the caller's own. What renders takes
@@ -52,4 +53,13 @@ pub trait Objects: Drop {
     /// What the function of this name makes of the arguments.
     fn call_function(&self, call: Call<'_>) -> TeraResult<Value>
         ensures { Gives (λ v. v) result (called (engine self.now) call.entry) };
+
+    /// Tries the names of the caller's filters in the place of one that is not there.
+    fn guess_filter(&self, guess: &mut Guess<'_>) -> Result<(), AllocError>;
+
+    /// Tries the names of the caller's tests.
+    fn guess_test(&self, guess: &mut Guess<'_>) -> Result<(), AllocError>;
+
+    /// Tries the names of the caller's functions.
+    fn guess_function(&self, guess: &mut Guess<'_>) -> Result<(), AllocError>;
 }

@@ -3,8 +3,9 @@ ghost use Rattle.std.specs.Prelude.{◌≡◌, ◌||◌, ℕ, Bool, [], take, is
 ghost use Rattle.tera_errors.specs.Prelude.{Lacks, Name};
 ghost use Rattle.tera_values.specs.Prelude.{at_name, put};
 
-use std::alloc::Global;
+use std::alloc::{AllocError, Global};
 use std::collections::BTreeMap;
+use tera_errors::Guess;
 use tera_values::TeraResult;
 
 /// What every engine has of a kind.
@@ -59,6 +60,14 @@ impl<X: Drop> Table<X> {
     {
         let key = String::from_str(self.alloc, name)?;
         self.entries.insert(key, thing)?;
+        Ok(())
+    }
+
+    /// Tries each name in the place of one that is not there.
+    pub fn guess(&self, guess: &mut Guess<'_>) -> Result<(), AllocError> {
+        for name in self.entries.keys() {
+            guess.add(name.as_str())?;
+        }
         Ok(())
     }
 

@@ -16,11 +16,15 @@ use crate::own::Own;
 use crate::template::Template;
 use std::alloc::{AllocError, Global};
 use std::collections::BTreeMap;
+use std::ops::Range;
 use std::rc::Rc;
 use tera_built_ins::names::{FILTERS, FUNCTIONS, TESTS};
 use tera_code::{Callee, Chunk, Target};
-use tera_errors::{Error, Guess, Span, place_of};
+use tera_errors::{Error, Guess, Place, Span, place_of};
 use tera_objects::Objects;
+
+/// For so many of the names that are not there, one is sought that may be meant: it takes a look at all names.
+const MOST_GUESSES: usize = 20;
 
 /// What names are looked up among.
 #[derive_where(Clone, Copy)]
@@ -43,8 +47,17 @@ pub(crate) struct NamedText<'a> {
 /// What is said of a name that is not there, and where that stands in the text.
 #[derive(Drop)]
 struct Lack {
-    start: usize,
+    at: usize,
     words: String,
+}
+
+/// What a refusal says of the names that are not there.
+#[derive(Drop)]
+struct Missing {
+    words: String,
+    /// Of the text that is gone through, not yet in the order of the text.
+    lacks: Vec<Lack>,
+    guesses: usize,
 }
 
 /// One refusal that names all that is not there, by template.
@@ -70,13 +83,13 @@ pub(crate) fn all_missing<'a, O: Objects>(
         own: None,
         objects,
     };
-    let mut words = String::new(alloc);
+    let mut missing = Missing::new(alloc);
     for position in 0..templates.len() {
-        if there.put_template(ups, position, &mut words).is_err() {
+        if there.put_template(ups, position, &mut missing).is_err() {
             return Error::out_of_memory();
         }
     }
-    Error::message_from(Ok(words))
+    Error::message_from(Ok(missing.words))
 }
 
 /// The same of a text beside the templates.
@@ -88,38 +101,33 @@ pub(crate) fn all_missing_beside<O: Objects>(
     requires { Rises (entries_of there.templates.now) }
     ensures { Tells result message }
 {
-    let mut words = String::new(there.alloc);
-    if there.put_text(text, body, &mut words).is_err() {
+    let mut missing = Missing::new(there.alloc);
+    if there.put_text(text, body, &mut missing).is_err() {
         return Error::out_of_memory();
     }
-    Error::message_from(Ok(words))
+    Error::message_from(Ok(missing.words))
 }
 
 impl<'a, O: Objects> There<'a, O> {
     // Puts what the template at a position lacks.
-    fn put_template(&self, ups: &[Up], of: usize, words: &mut String) -> Result<(), AllocError>
+    fn put_template(&self, ups: &[Up], of: usize, missing: &mut Missing) -> Result<(), AllocError>
         ghost registry: { Registry }
         requires rises { Rises (entries_of self.now.templates.now) }
         requires climbable { Climbable registry self.now.templates.now ups.now }
         requires there { of < length self.now.templates.now }
     {
         let template: &Template = &self.templates[of];
-        let text = NamedText {
-            file: template.name.as_str(),
-            source: template.text.as_str(),
-        };
-        let mut lacks = Vec::new(self.alloc);
         let code: &Code = &template.body;
-        self.add_code(text, &code.chunk, &mut lacks)?;
+        self.add_code(&code.chunk, missing)?;
         for block in template.blocks.iter() {
             let code: &Code = &block.code;
-            self.add_code(text, &code.chunk, &mut lacks)?;
+            self.add_code(&code.chunk, missing)?;
         }
-        self.add_codes(text, template.components.as_slice(), &mut lacks)?;
+        self.add_codes(template.components.as_slice(), missing)?;
         if template.parent.is_some() {
-            self.add_blocks(text, ups, of, &mut lacks)?;
+            self.add_blocks(ups, of, missing)?;
         }
-        put_all(lacks, words)
+        missing.put_all(template.name.as_str(), template.text.as_str())
     }
 
     // Puts what a text beside the templates lacks.
@@ -127,39 +135,32 @@ impl<'a, O: Objects> There<'a, O> {
         &self,
         text: NamedText<'_>,
         body: &Chunk,
-        words: &mut String,
+        missing: &mut Missing,
     ) -> Result<(), AllocError>
         requires { Rises (entries_of self.now.templates.now) }
     {
-        let mut lacks = Vec::new(self.alloc);
-        self.add_code(text, body, &mut lacks)?;
+        self.add_code(body, missing)?;
         if let Some(own) = self.own {
-            self.add_codes(text, own.components, &mut lacks)?;
+            self.add_codes(own.components, missing)?;
         }
-        put_all(lacks, words)
+        missing.put_all(text.file, text.source)
     }
 
     // Adds what the code calls and includes that is not there.
-    fn add_code(
-        &self,
-        text: NamedText<'_>,
-        chunk: &Chunk,
-        lacks: &mut Vec<Lack>,
-    ) -> Result<(), AllocError>
+    fn add_code(&self, chunk: &Chunk, missing: &mut Missing) -> Result<(), AllocError>
         requires { Rises (entries_of self.now.templates.now) }
     {
         for position in 0..chunk.len() {
+            let span = chunk.span_at(position);
             if let Some(callee) = chunk.callee_at(position) {
                 if !is_known(self.objects, self.choices, self.own, callee) {
-                    let words = self.no_callee(callee)?;
-                    lacks.push(make_lack(text, chunk.span_at(position), words)?)?;
+                    self.add_callee(callee, span, missing)?;
                 }
             }
             if let Some(Target::Template(name)) = chunk.target_at(position) {
                 let name = name.as_str();
                 if resolve(self.templates, self.prefixes, name).is_none() {
-                    let words = self.no_template(name)?;
-                    lacks.push(make_lack(text, chunk.span_at(position), words)?)?;
+                    self.add_include(name, span, missing)?;
                 }
             }
         }
@@ -169,15 +170,14 @@ impl<'a, O: Objects> There<'a, O> {
     // The same of the code of components.
     fn add_codes(
         &self,
-        text: NamedText<'_>,
         components: &[Component],
-        lacks: &mut Vec<Lack>,
+        missing: &mut Missing,
     ) -> Result<(), AllocError>
         requires { Rises (entries_of self.now.templates.now) }
     {
         for component in components {
             let code: &Code = &component.code;
-            self.add_code(text, &code.chunk, lacks)?;
+            self.add_code(&code.chunk, missing)?;
         }
         Ok(())
     }
@@ -185,10 +185,9 @@ impl<'a, O: Objects> There<'a, O> {
     // Adds the blocks of a template, inside no other one, that no parent has.
     fn add_blocks(
         &self,
-        text: NamedText<'_>,
         ups: &[Up],
         of: usize,
-        lacks: &mut Vec<Lack>,
+        missing: &mut Missing,
     ) -> Result<(), AllocError>
         ghost registry: { Registry }
         requires climbable { Climbable registry self.now.templates.now ups.now }
@@ -196,22 +195,36 @@ impl<'a, O: Objects> There<'a, O> {
     {
         let template: &Template = &self.templates[of];
         let code: &Code = &template.body;
-        for block in template.tops.iter() {
-            if first_above(self.templates, ups, of, &block.sought()).is_none() {
-                let name = block.as_str();
-                let mut words = format!(in self.alloc; "no template above has a block `{name}`")?;
-                let mut guess = Guess::new(self.alloc, name);
-                for other in self.templates.iter() {
-                    add_blocks_of(other, &mut guess)?;
+        for position in 0..code.chunk.len() {
+            if let Some((block, span)) = code.chunk.block_at(position) {
+                if first_above(self.templates, ups, of, &block.sought()).is_none() {
+                    self.add_block(block.as_str(), span, missing)?;
                 }
-                guess.put(&mut words)?;
-                lacks.push(make_lack(text, span_of(&code.chunk, name), words)?)?;
             }
         }
         Ok(())
     }
 
-    fn no_callee(&self, callee: Callee<'_>) -> Result<String, AllocError> {
+    // A block that no parent has.
+    fn add_block(&self, name: &str, span: Span, missing: &mut Missing) -> Result<(), AllocError> {
+        let mut words = format!(in self.alloc; "no template above has a block `{name}`")?;
+        if missing.may_guess() {
+            let mut guess = Guess::new(self.alloc, name);
+            for other in self.templates.iter() {
+                add_blocks_of(other, &mut guess)?;
+            }
+            guess.put(&mut words)?;
+        }
+        missing.add(Some(span), words)
+    }
+
+    // A name that is called and stands for nothing.
+    fn add_callee(
+        &self,
+        callee: Callee<'_>,
+        span: Option<Span>,
+        missing: &mut Missing,
+    ) -> Result<(), AllocError> {
         let (kind, name) = match callee {
             Callee::Filter(name) => ("filter", name),
             Callee::Test(name) => ("test", name),
@@ -219,18 +232,33 @@ impl<'a, O: Objects> There<'a, O> {
             Callee::Component(name) => ("component", name),
         };
         let mut words = format!(in self.alloc; "there is no {kind} `{name}`")?;
-        let mut guess = Guess::new(self.alloc, name);
-        match callee {
-            Callee::Filter(_) => add_all(&FILTERS, &mut guess)?,
-            Callee::Test(_) => add_all(&TESTS, &mut guess)?,
-            Callee::Function(_) => add_all(&FUNCTIONS, &mut guess)?,
-            Callee::Component(_) => self.add_components(&mut guess)?,
+        if missing.may_guess() {
+            let mut guess = Guess::new(self.alloc, name);
+            self.guess_callee(callee, &mut guess)?;
+            guess.put(&mut words)?;
         }
-        guess.put(&mut words)?;
-        Ok(words)
+        missing.add(span, words)
     }
 
-    fn add_components(&self, guess: &mut Guess<'_>) -> Result<(), AllocError> {
+    fn guess_callee(&self, callee: Callee<'_>, guess: &mut Guess<'_>) -> Result<(), AllocError> {
+        match callee {
+            Callee::Filter(_) => {
+                add_all(&FILTERS, guess)?;
+                self.objects.guess_filter(guess)
+            }
+            Callee::Test(_) => {
+                add_all(&TESTS, guess)?;
+                self.objects.guess_test(guess)
+            }
+            Callee::Function(_) => {
+                add_all(&FUNCTIONS, guess)?;
+                self.objects.guess_function(guess)
+            }
+            Callee::Component(_) => self.guess_component(guess),
+        }
+    }
+
+    fn guess_component(&self, guess: &mut Guess<'_>) -> Result<(), AllocError> {
         for name in self.choices.keys() {
             guess.add(name.as_str())?;
         }
@@ -240,12 +268,85 @@ impl<'a, O: Objects> There<'a, O> {
         }
     }
 
-    fn no_template(&self, name: &str) -> Result<String, AllocError> {
+    // An included name that no template has.
+    fn add_include(
+        &self,
+        name: &str,
+        span: Option<Span>,
+        missing: &mut Missing,
+    ) -> Result<(), AllocError> {
         let mut words = format!(in self.alloc; "there is no template `{name}` to include")?;
-        let mut guess = Guess::new(self.alloc, name);
-        add_templates(self.templates, &mut guess)?;
-        guess.put(&mut words)?;
-        Ok(words)
+        if missing.may_guess() {
+            let mut guess = Guess::new(self.alloc, name);
+            add_templates(self.templates, &mut guess)?;
+            guess.put(&mut words)?;
+        }
+        missing.add(span, words)
+    }
+}
+
+impl Missing {
+    fn new(alloc: Global) -> Missing {
+        Missing {
+            words: String::new(alloc),
+            lacks: Vec::new(alloc),
+            guesses: 0,
+        }
+    }
+
+    // Whether one more name is guessed at.
+    fn may_guess(&mut self) -> bool {
+        self.guesses = self.guesses.saturating_add(1);
+        self.guesses <= MOST_GUESSES
+    }
+
+    // Adds what is said of a name at this span; at the start of the text where there is none.
+    fn add(&mut self, span: Option<Span>, words: String) -> Result<(), AllocError> {
+        let at = match span {
+            Some(span) => span.start,
+            None => 0,
+        };
+        self.lacks.push(Lack { at, words })?;
+        Ok(())
+    }
+
+    // Puts them behind the words in the order of the text, a line each, with the place in front.
+    fn put_all(&mut self, file: &str, source: &str) -> Result<(), AllocError> {
+        self.lacks.sort_by_key(|lack| lack.at)?;
+        let mut place = Place { line: 1, column: 1 };
+        let mut from = 0;
+        for lack in self.lacks.iter() {
+            place = place_behind(place, source, from..lack.at);
+            from = lack.at;
+            if !self.words.is_empty() {
+                self.words.push_str("\n")?;
+            }
+            let (line, column, words) = (place.line, place.column, lack.words.as_str());
+            let alloc = *lack.words.allocator();
+            let told = format!(in alloc; "{file}:{line}:{column}: {words}")?;
+            self.words.push_str(told.as_str())?;
+        }
+        self.lacks.clear();
+        Ok(())
+    }
+}
+
+// The place of the end of a part of a text whose start is at this place.
+fn place_behind(place: Place, source: &str, part: Range<usize>) -> Place {
+    let Some(part) = source.get(part) else {
+        return place;
+    };
+    let further = place_of(part, part.len());
+    if further.line > 1 {
+        Place {
+            line: place.line.saturating_add(further.line - 1),
+            column: further.column,
+        }
+    } else {
+        Place {
+            line: place.line,
+            column: place.column.saturating_add(further.column - 1),
+        }
     }
 }
 
@@ -280,49 +381,6 @@ fn add_names_of(components: &[Component], guess: &mut Guess<'_>) -> Result<(), A
 fn add_all(names: &[&str], guess: &mut Guess<'_>) -> Result<(), AllocError> {
     for name in names {
         guess.add(*name)?;
-    }
-    Ok(())
-}
-
-// Where the block of this name is put out.
-fn span_of(chunk: &Chunk, block: &str) -> Option<Span> {
-    for position in 0..chunk.len() {
-        if let Some(span) = chunk.span_of_block(position, block) {
-            return Some(span);
-        }
-    }
-    None
-}
-
-// The words with the place in front.
-fn make_lack(text: NamedText<'_>, span: Option<Span>, words: String) -> Result<Lack, AllocError> {
-    let (file, said) = (text.file, words.as_str());
-    let alloc = *words.allocator();
-    match span {
-        Some(span) if span.start <= text.source.len() => {
-            let place = place_of(text.source, span.start);
-            let (line, column) = (place.line, place.column);
-            Ok(Lack {
-                start: span.start,
-                words: format!(in alloc; "{file}:{line}:{column}: {said}")?,
-            })
-        }
-        _ => Ok(Lack {
-            start: 0,
-            words: format!(in alloc; "{file}: {said}")?,
-        }),
-    }
-}
-
-// Puts them in the order of the text, a line each.
-fn put_all(lacks: Vec<Lack>, words: &mut String) -> Result<(), AllocError> {
-    let mut lacks = lacks;
-    lacks.sort_by_key(|lack| lack.start)?;
-    for lack in lacks.iter() {
-        if !words.is_empty() {
-            words.push_str("\n")?;
-        }
-        words.push_str(lack.words.as_str())?;
     }
     Ok(())
 }

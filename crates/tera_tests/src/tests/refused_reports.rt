@@ -9,7 +9,7 @@ const BATCH: [(&str, &str); 3] = [
     ("item.html", "<li>{{ itme | truncate(length='x') }}</li>"),
 ];
 
-const UNDEFINED: &str = "item.html:1:8: `itme` is undefined
+const UNDEFINED: &str = "item.html:1:8: filter `truncate`: `itme` is undefined, and a string is wanted
 1 | <li>{{ itme | truncate(length='x') }}</li>
   |        ^^^^
 called from list.html:1:16
@@ -20,7 +20,7 @@ const LACKING: [(&str, &str); 2] = [
     ("list.html", ""),
 ];
 
-const MISSING: &str = "page.html:1:8: there is no filter `trunacte` (is `truncate` meant?)
+const MISSING: &str = "page.html:1:4: there is no filter `trunacte` (is `truncate` meant?)
 page.html:1:30: there is no template `lits.html` to include (is `list.html` meant?)";
 
 const ABSENT: &str = "there is no template `none.html`";

@@ -127,6 +127,29 @@ fn names_of_built_ins_are_taken(rt: HostRuntime) {
     assert!(rt; is_right);
 }
 
+/// Names of the caller's objects that are misspelled, and what is said of them.
+const MISSPELLED: &str = "{{ 1 | bould }}{{ helo() }}{% if 1 is wrnog %}{% endif %}";
+const MEANT: &str = "page.html:1:4: there is no filter `bould` (is `bold` meant?)
+page.html:1:19: there is no function `helo` (is `hello` meant?)
+page.html:1:34: there is no test `wrnog` (is `wrong` meant?)";
+
+fn guesses(alloc: Global) -> TeraResult<bool> {
+    let mut engine = engine(alloc)?;
+    match engine.add_raw_template("page.html", MISSPELLED) {
+        Ok(()) => Ok(false),
+        Err(error) => match error.kind() {
+            ErrorKind::Message(words) => Ok(words.as_str() == MEANT),
+            _ => Ok(false),
+        },
+    }
+}
+
+#[test]
+fn names_of_objects_are_guessed(rt: HostRuntime) {
+    let is_right = matches!(guesses(rt.alloc()), Ok(true));
+    assert!(rt; is_right);
+}
+
 fn has_no_filter(alloc: Global) -> bool {
     let context = Context::new(alloc);
     let state = State::new(&context);

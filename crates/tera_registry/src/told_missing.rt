@@ -168,11 +168,7 @@ impl<'a, O: Objects> There<'a, O> {
     }
 
     // The same of the code of components.
-    fn add_codes(
-        &self,
-        components: &[Component],
-        missing: &mut Missing,
-    ) -> Result<(), AllocError>
+    fn add_codes(&self, components: &[Component], missing: &mut Missing) -> Result<(), AllocError>
         requires { Rises (entries_of self.now.templates.now) }
     {
         for component in components {
@@ -183,12 +179,7 @@ impl<'a, O: Objects> There<'a, O> {
     }
 
     // Adds the blocks of a template, inside no other one, that no parent has.
-    fn add_blocks(
-        &self,
-        ups: &[Up],
-        of: usize,
-        missing: &mut Missing,
-    ) -> Result<(), AllocError>
+    fn add_blocks(&self, ups: &[Up], of: usize, missing: &mut Missing) -> Result<(), AllocError>
         ghost registry: { Registry }
         requires climbable { Climbable registry self.now.templates.now ups.now }
         requires there { of < length self.now.templates.now }
@@ -345,7 +336,9 @@ fn place_behind(place: Place, source: &str, part: Range<usize>) -> Place {
     } else {
         Place {
             line: place.line,
-            column: place.column.saturating_add(further.column - 1),
+            column: place
+                .column
+                .saturating_add(further.column.saturating_sub(1)),
         }
     }
 }

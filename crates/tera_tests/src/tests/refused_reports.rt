@@ -9,7 +9,8 @@ const BATCH: [(&str, &str); 3] = [
     ("item.html", "<li>{{ itme | truncate(length='x') }}</li>"),
 ];
 
-const UNDEFINED: &str = "item.html:1:8: filter `truncate`: `itme` is undefined, and a string is wanted
+const UNDEFINED: &str =
+    "item.html:1:8: filter `truncate`: `itme` is undefined, and a string is wanted
 1 | <li>{{ itme | truncate(length='x') }}</li>
   |        ^^^^
 called from list.html:1:16

@@ -5,6 +5,7 @@
 mod batch;
 pub mod body;
 mod choices;
+mod circle;
 pub mod code;
 pub mod components;
 mod definers;

@@ -1,12 +1,13 @@
 // Why templates do not go together, in words.
 ghost use Rattle.std.specs.Prelude.{◌≡◌};
 
+use crate::circle::circle_of;
 use crate::lineage::Up;
 use crate::priority::priority;
 use crate::template::Template;
 use crate::told_missing::add_templates;
 use std::alloc::{AllocError, Global};
-use std::fmt::Write;
+use std::collections::BTreeMap;
 use std::rc::Rc;
 use tera_errors::{Error, ErrorKind, Guess, place_of};
 
@@ -100,158 +101,107 @@ impl<'a> Linked<'a> {
         Ok(Some(words))
     }
 
-    // The first templates that extend one another.
+    // Templates that extend one another.
     fn circle_of_parents(&self) -> Result<Option<String>, AllocError> {
-        for position in 0..self.ups.len() {
-            if let Some(length) = self.parents_to_itself(position) {
-                return self.way_up(position, length);
+        let mut parents = Vec::new(self.alloc);
+        for up in self.ups.iter() {
+            let mut above = Vec::new(self.alloc);
+            if let Up::At(position) = up {
+                above.push(*position)?;
             }
+            parents.push(above)?;
         }
-        Ok(None)
+        match circle_of(self.alloc, parents.as_slice())? {
+            Some(circle) => Ok(Some(self.way_round(circle.as_slice(), "extends")?)),
+            None => Ok(None),
+        }
     }
 
-    // How many steps lead from a template up to itself.
-    fn parents_to_itself(&self, position: usize) -> Option<usize> {
-        let mut last = position;
-        for step in 0..self.ups.len() {
-            match self.ups.get(last) {
-                Some(Up::At(next)) if *next == position => return Some(step + 1),
-                Some(Up::At(next)) => last = *next,
-                _ => return None,
-            }
-        }
-        None
-    }
-
-    fn way_up(&self, position: usize, length: usize) -> Result<Option<String>, AllocError> {
-        let name = self.name(position);
-        let mut words = format!(in self.alloc; "`{name}` extends itself")?;
-        let mut last = position;
-        for step in 0..length {
-            let Some(Up::At(next)) = self.ups.get(last) else {
-                return Ok(Some(words));
-            };
-            last = *next;
-            let name = self.name(last);
-            if length == 1 || step >= MOST {
-                return Ok(Some(words));
-            }
-            if step == 0 {
-                write!(words, ": it extends `{name}`")?;
-            } else {
-                write!(words, ", which extends `{name}`")?;
-            }
-        }
-        Ok(Some(words))
-    }
-
-    // The first template that includes itself, and by which way.
+    // Templates that include one another.
     fn circle_of_includes(&self) -> Result<Option<String>, AllocError> {
-        for position in 0..self.edges.len() {
-            let from = self.ways_from(position)?;
-            if let Some(Some(_)) = from.get(position) {
-                return self.way_round(position, from.as_slice());
-            }
+        match circle_of(self.alloc, self.edges)? {
+            Some(circle) => Ok(Some(self.way_round(circle.as_slice(), "includes")?)),
+            None => Ok(None),
         }
-        Ok(None)
     }
 
-    // By which each template is included first, going out from one of them, where it is reached.
-    fn ways_from(&self, position: usize) -> Result<Vec<Option<usize>>, AllocError> {
-        let mut from = vec![in self.alloc; None; self.edges.len()]?;
-        let mut row = Vec::new(self.alloc);
-        row.push(position)?;
-        for at in 0..self.edges.len() {
-            let Some(here) = row.get(at) else {
-                return Ok(from);
-            };
-            let here = *here;
-            if let Some(edges) = self.edges.get(here) {
-                for next in edges.iter() {
-                    if let Some(slot) = from.get_mut(*next) {
-                        if slot.is_none() {
-                            *slot = Some(here);
-                            row.push(*next)?;
-                        }
-                    }
-                }
-            }
+    // How the first template of a circle comes to extend or to include itself, as the word says.
+    fn way_round(&self, circle: &[usize], does: &str) -> Result<String, AllocError> {
+        let first = match circle.first() {
+            Some(position) => self.name(*position),
+            None => "",
+        };
+        let mut words = format!(in self.alloc; "`{first}` {does} itself")?;
+        if circle.len() <= 1 {
+            return Ok(words);
         }
-        Ok(from)
-    }
-
-    fn way_round(
-        &self,
-        position: usize,
-        from: &[Option<usize>],
-    ) -> Result<Option<String>, AllocError> {
-        let mut way = Vec::new(self.alloc);
-        let mut last = position;
-        for _step in 0..from.len() {
-            way.push(last)?;
-            match from.get(last) {
-                Some(Some(before)) if *before != position => last = *before,
-                _ => return self.includes_itself(position, way.as_slice()),
-            }
+        let mut before = ": it";
+        for position in circle.iter().skip(1).take(MOST) {
+            let name = self.name(*position);
+            words.push_str(before)?;
+            let step = format!(in self.alloc; " {does} `{name}`")?;
+            words.push_str(step.as_str())?;
+            before = ", which";
         }
-        Ok(None)
-    }
-
-    // In words, where the way is given from its end.
-    fn includes_itself(
-        &self,
-        position: usize,
-        way: &[usize],
-    ) -> Result<Option<String>, AllocError> {
-        let name = self.name(position);
-        let mut words = format!(in self.alloc; "`{name}` includes itself")?;
-        if way.len() == 1 {
-            return Ok(Some(words));
+        if circle.len() <= MOST {
+            let step = format!(in self.alloc; ", which {does} `{first}`")?;
+            words.push_str(step.as_str())?;
         }
-        let mut passed: usize = 0;
-        for at in way.iter().rev() {
-            let name = self.name(*at);
-            if passed == 0 {
-                write!(words, ": it includes `{name}`")?;
-            } else if passed < MOST {
-                write!(words, ", which includes `{name}`")?;
-            }
-            passed = passed.saturating_add(1);
-        }
-        Ok(Some(words))
+        Ok(words)
     }
 
     // The component that two templates define, and both of them.
     fn tie(&self) -> Result<Option<String>, AllocError> {
-        let Some(position) = self.tie else {
+        let Some(template) = self.tied() else {
             return Ok(None);
         };
-        let Some(template) = self.templates.get(position) else {
-            return Ok(None);
-        };
-        let template: &Template = template;
-        let rank = priority(self.prefixes, template.name.as_str());
+        let above = self.definers_beside(template)?;
         for component in template.components.iter() {
             let name = component.definition.name();
-            for other in self.templates.iter().take(position) {
-                let other: &Template = other;
-                if priority(self.prefixes, other.name.as_str()) == rank && defines(other, name) {
-                    let (first, second) = (other.name.as_str(), template.name.as_str());
-                    return Ok(Some(format!(in self.alloc;
-                        "component `{name}` is defined in both `{first}` and `{second}`, and neither is preferred"
-                    )?));
-                }
+            if let Some(first) = above.get(&name) {
+                let (first, second) = (*first, template.name.as_str());
+                return Ok(Some(format!(in self.alloc;
+                    "component `{name}` is defined in both `{first}` and `{second}`, and neither is preferred"
+                )?));
             }
         }
         Ok(None)
     }
-}
 
-fn defines(template: &Template, name: &str) -> bool {
-    for component in template.components.iter() {
-        if component.definition.name() == name {
-            return true;
+    // The first template that ties with one before it.
+    fn tied(&self) -> Option<&'a Template> {
+        match self.templates.get(self.tie?) {
+            Some(template) => Some(template),
+            None => None,
         }
     }
-    false
+
+    // By the name of each component the first template that defines it, of those before this one that have its priority.
+    fn definers_beside(
+        &self,
+        template: &Template,
+    ) -> Result<BTreeMap<&'a str, &'a str>, AllocError> {
+        let rank = priority(self.prefixes, template.name.as_str());
+        let mut definers = BTreeMap::new(self.alloc);
+        for other in self.templates.iter().take(self.tie.unwrap_or(0)) {
+            let other: &'a Template = other;
+            if priority(self.prefixes, other.name.as_str()) == rank {
+                add_definer(&mut definers, other)?;
+            }
+        }
+        Ok(definers)
+    }
+}
+
+fn add_definer<'a>(
+    definers: &mut BTreeMap<&'a str, &'a str>,
+    template: &'a Template,
+) -> Result<(), AllocError> {
+    for component in template.components.iter() {
+        let name = component.definition.name();
+        if !definers.contains_key(&name) {
+            definers.insert(name, template.name.as_str())?;
+        }
+    }
+    Ok(())
 }

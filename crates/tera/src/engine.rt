@@ -104,7 +104,7 @@ impl<O: Objects> TeraOver<O> {
             (with_delimiters (delimiters_of delimiters) (registry_of O.engine self.old))
             (registry_of O.engine self.old) (registry_of O.engine self.new) }
     {
-        self.refuse_once_filled()?;
+        self.refuse_once_filled("the delimiters")?;
         delimiters.validate(self.alloc)?;
         self.delimiters = delimiters;
         Ok(())
@@ -117,13 +117,13 @@ impl<O: Objects> TeraOver<O> {
             (with_prefixes (texts_of prefixes.now) (registry_of O.engine self.old))
             (registry_of O.engine self.old) (registry_of O.engine self.new) }
     {
-        self.refuse_once_filled()?;
+        self.refuse_once_filled("the fallback prefixes")?;
         self.templates = Templates::new(self.alloc, copied(self.alloc, prefixes)?);
         Ok(())
     }
 
     // What templates were read and linked by cannot change.
-    fn refuse_once_filled(&self) -> TeraResult<()>
+    fn refuse_once_filled(&self, what: &str) -> TeraResult<()>
         ensures ok { OnOk result ((registry_of O.engine self.now).templates ≡ []) }
         ensures err { IfErr result
             (λ e. Tells e message
@@ -132,10 +132,9 @@ impl<O: Objects> TeraOver<O> {
         if self.templates.is_empty() {
             return Ok(());
         }
-        Err(Error::message(
-            self.alloc,
-            "this cannot be changed once a template is there",
-        ))
+        Err(Error::message_from(format!(in self.alloc;
+            "{what} can't be changed once a template is there"
+        )))
     }
 
     /// Templates whose names end with one of these suffixes escape from now on, also those that are there.

@@ -9,7 +9,7 @@ ghost use Rattle.tera_syntax_tokens.specs.declared.refusal.Refusal.TheVariants.{
 ghost use Rattle.tera_syntax_tree.specs.Prelude.{definitions_of, DefinitionsInside, Inside, NodeInside, NodesInside, node_of, nodes_of, tree_of};
 
 use std::alloc::Global;
-use std::collections::HashMap;
+use std::collections::BTreeMap;
 use tera_errors::Span;
 use tera_syntax_tokens::refusal::{Reason, Refusal};
 use tera_syntax_tree::{DefinedComponent, Node, ParserOutput};
@@ -123,7 +123,7 @@ fn twice(alloc: Global, names: &[PlacedName<'_>]) -> Result<Option<Span>, Refusa
     ensures ok { IfOk result (λ found. found ≡ again (names_of names.now)) }
     ensures lacks { IfErr result (λ refusal. refusal ≡ OutOfMemory) }
 {
-    let mut behind: HashMap<&str, Span> = HashMap::new(alloc);
+    let mut behind: BTreeMap<&str, Span> = BTreeMap::new(alloc);
     let mut found = None;
     let mut at = names.len();
     while at > 0 {

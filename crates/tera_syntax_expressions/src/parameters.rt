@@ -9,7 +9,7 @@ ghost use Rattle.tera_syntax_expressions.specs.Parts.{parameters_of};
 use crate::headings::name;
 use crate::literals::written;
 use std::alloc::Global;
-use std::collections::HashSet;
+use std::collections::BTreeSet;
 use tera_syntax_tokens::refusal::{Reason, Refusal};
 use tera_syntax_tokens::token::Kind;
 use tera_syntax_tokens::tokens::{Tokens, is_word};
@@ -182,7 +182,7 @@ fn is_fit(alloc: Global, signature: &Signature<'_>) -> Result<bool, Refusal>
     ensures ok { IfOk result (λ fit. fit ≡ has_fit_parameters (signature_of signature.now)) }
     ensures lacks { IfErr result (λ refusal. refusal ≡ OutOfMemory) }
 {
-    let mut seen: HashSet<&str> = HashSet::new(alloc);
+    let mut seen: BTreeSet<&str> = BTreeSet::new(alloc);
     seen.insert("body")?;
     for parameter in signature.parameters.iter() {
         if !seen.insert(parameter.name)? {

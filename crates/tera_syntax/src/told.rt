@@ -3,6 +3,7 @@ ghost use Rattle.tera_errors.specs.Prelude.{Tells};
 ghost use Rattle.tera_errors.specs.Fault.{syntax_error};
 
 use std::alloc::{AllocError, Global};
+use std::collections::BTreeSet;
 use tera_errors::{Error, Guess, Span, place_of};
 use tera_syntax_tokens::refusal::Reason;
 use tera_syntax_tree::Delimiters;
@@ -74,15 +75,14 @@ impl<'a> Text<'a> {
 
     // The name of two components, as it is seen in the text: what was read of it keeps no place of a name.
     fn component_twice(&self, alloc: Global) -> Result<Option<&'a str>, AllocError> {
-        let mut names: Vec<&'a str> = Vec::new(alloc);
+        let mut names: BTreeSet<&'a str> = BTreeSet::new(alloc);
         for tag in self.source.split(self.delimiters.block_start.as_str()) {
             let tag = tag.strip_prefix("-").unwrap_or(tag).trim_start();
             if let Some((name, _)) = tag.strip_prefix("component ").unwrap_or("").split_once("(") {
                 let name = name.trim();
-                if names.contains(&name) {
+                if !names.insert(name)? {
                     return Ok(Some(name));
                 }
-                names.push(name)?;
             }
         }
         Ok(None)

@@ -1,6 +1,6 @@
 use Rattle.std.proofs.Common.{rules, sym, ◌∙◌}
 use Rattle.tera_syntax.proofs.Again.{read_more}
-use Rattle.tera_syntax.proofs.blocks.twice.Goals as goal
+use Rattle.tera_syntax.proofs.blocks.twice_in_many.Goals as goal
 
 pub loop-at-preserved-in-Some : goal.loop-at-preserved-in-Some
 loop-at-preserved-in-Some c =

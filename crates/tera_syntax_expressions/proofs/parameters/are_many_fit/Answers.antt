@@ -6,7 +6,7 @@ use Rattle.tera_syntax_tree.specs.Blocks.{are_distinct}
 use Rattle.tera_syntax_expressions.specs.Parts.{signature_names}
 use Rattle.tera_syntax_expressions.proofs.Beside.{has, has-empty, has-more, are_new, are_new-none, are_new-cons}
 use Rattle.tera_syntax_expressions.proofs.Fit.{fit_names}
-use Rattle.tera_syntax_expressions.proofs.parameters.is_fit.Goals as goal
+use Rattle.tera_syntax_expressions.proofs.parameters.are_many_fit.Goals as goal
 
 pub loop-parameter-init : goal.loop-parameter-init
 loop-parameter-init c =

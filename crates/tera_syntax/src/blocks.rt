@@ -11,6 +11,7 @@ ghost use Rattle.tera_syntax_tree.specs.Prelude.{definitions_of, DefinitionsInsi
 use std::alloc::Global;
 use std::collections::BTreeMap;
 use tera_errors::Span;
+use tera_syntax_expressions::parameters::is_same;
 use tera_syntax_tokens::refusal::{Reason, Refusal};
 use tera_syntax_tree::{DefinedComponent, Node, ParserOutput};
 
@@ -149,7 +150,7 @@ fn first_at(name: &str, names: &[PlacedName<'_>]) -> Option<Span>
     ensures { result ≡ first_at name.now (names_of names.now) }
 {
     for placed in names {
-        if placed.name == name {
+        if is_same(placed.name, name) {
             return Some(placed.span);
         }
     }

@@ -111,13 +111,25 @@ impl<'a> Text<'a> {
         let (before, _) = self.source.get(..at)?.rsplit_once(start)?;
         let mut open = None;
         for (tag, _) in before.match_indices(start) {
-            match first_word(self.opening(tag)) {
-                "component" => open = Some(tag),
-                "endcomponent" => open = None,
-                _ => {}
+            let rest = self.first_word_on(tag);
+            if rest.starts_with("component") {
+                open = Some(tag);
+            } else if rest.starts_with("endcomponent") {
+                open = None;
             }
         }
         open
+    }
+
+    // The text from the first word of the tag on that begins at this byte. Its end is not looked for: a comment may be full
+    // of signs that begin a tag.
+    fn first_word_on(&self, at: usize) -> &'a str {
+        let Some((_, rest)) = self.source.split_at_checked(at) else {
+            return "";
+        };
+        let start = self.delimiters.block_start.as_str();
+        let rest = rest.strip_prefix(start).unwrap_or(rest);
+        rest.strip_prefix("-").unwrap_or(rest).trim_start()
     }
 
     // A tag belongs to a statement that is not the one which is open.

@@ -1,5 +1,5 @@
 // Signatures of components.
-ghost use Rattle.std.specs.Prelude.{◌≡◌, [], map, IfOk, IfErr};
+ghost use Rattle.std.specs.Prelude.{◌≡◌, [], map, bytes_eq, IfOk, IfErr};
 ghost use Rattle.std.specs.Option.{option_copied};
 ghost use Rattle.tera_syntax_tree.specs.Prelude.{has_fit_parameters, is_among, parameter_of, signature_of, written_option};
 ghost use Rattle.tera_syntax_tokens.specs.Prelude.{left, Takes, input};
@@ -214,14 +214,22 @@ fn is_taken(name: &str, parameters: &[Parameter<'_>], rest: Option<&str>) -> boo
         result ≡ is_among name.now names }
 {
     for parameter in parameters {
-        if name == parameter.name {
+        if is_same(name, parameter.name) {
             return true;
         }
     }
     match rest {
-        Some(rest) => name == rest,
+        Some(rest) => is_same(name, rest),
         None => false,
     }
+}
+
+/// Whether the names are the same. Their order is told in fewer steps than `==` takes where they are equally long.
+#[inline(always)]
+pub fn is_same(name: &str, other: &str) -> bool
+    ensures { result ≡ bytes_eq name.now other.now }
+{
+    name.as_bytes().cmp(&other.as_bytes()).is_eq()
 }
 
 /// The same where they may be many: each is looked up among those before it.

@@ -16,7 +16,7 @@ use tera_syntax_tokens::refusal::{Reason, Refusal};
 use tera_syntax_tree::{DefinedComponent, Node, ParserOutput};
 
 /// Up to so many names are compared with one another, which takes less than to build a tree of them.
-const FEW_NAMES: usize = 16;
+const FEW_NAMES: usize = 8;
 
 /// The name of a block or a component, and where it stands.
 #[derive(Clone, Copy)]

@@ -1,7 +1,7 @@
 // The names of a tree's blocks and components.
 ghost use Rattle.std.specs.Prelude.{ℕ, ◌≡◌, ◌≤◌, ◌∷◌, [], IfOk, IfErr};
 ghost use Rattle.tera_syntax.specs.File as spec;
-ghost use Rattle.tera_syntax.specs.Names.{again, blocks_at, components_at, doubled, first_text, node_blocks_at, placed, RefusesOnly, text_start, tree_doubled};
+ghost use Rattle.tera_syntax.specs.Names.{again, blocks_at, components_at, doubled, first_at, first_text, node_blocks_at, placed, RefusesOnly, text_start, tree_doubled};
 ghost use Rattle.tera_syntax.specs.Positions.{NamesWithin, StayWithin};
 ghost use Rattle.tera_syntax.specs.View.{Gathers, names_of};
 ghost use Rattle.tera_syntax_tokens.specs.Prelude.{Answers, PointsWithin};
@@ -9,10 +9,14 @@ ghost use Rattle.tera_syntax_tokens.specs.declared.refusal.Refusal.TheVariants.{
 ghost use Rattle.tera_syntax_tree.specs.Prelude.{definitions_of, DefinitionsInside, Inside, NodeInside, NodesInside, node_of, nodes_of, tree_of};
 
 use std::alloc::Global;
-use std::collections::HashMap;
+use std::collections::BTreeMap;
 use tera_errors::Span;
+use tera_syntax_expressions::parameters::is_same;
 use tera_syntax_tokens::refusal::{Reason, Refusal};
 use tera_syntax_tree::{DefinedComponent, Node, ParserOutput};
+
+/// Up to so many names are compared with one another, which takes less than to build a tree of them.
+const FEW_NAMES: usize = 8;
 
 /// The name of a block or a component, and where it stands.
 #[derive(Clone, Copy)]
@@ -117,13 +121,48 @@ fn gather_component<'s>(
     Ok(())
 }
 
-/// Where the first name that stands again stands next, if one does. The names are read from behind,
-/// beside where each of them stands first of all that was read.
+/// Where the first name that stands again stands next, if one does.
 fn twice(alloc: Global, names: &[PlacedName<'_>]) -> Result<Option<Span>, Refusal>
     ensures ok { IfOk result (λ found. found ≡ again (names_of names.now)) }
     ensures lacks { IfErr result (λ refusal. refusal ≡ OutOfMemory) }
 {
-    let mut behind: HashMap<&str, Span> = HashMap::new(alloc);
+    if names.len() > FEW_NAMES {
+        return twice_in_many(alloc, names);
+    }
+    Ok(twice_in_few(names))
+}
+
+/// The same in few names: each is compared with those behind it.
+fn twice_in_few(names: &[PlacedName<'_>]) -> Option<Span>
+    ensures { result ≡ again (names_of names.now) }
+{
+    for at in 0..names.len() {
+        let next = first_at(names[at].name, &names[at + 1..]);
+        if next.is_some() {
+            return next;
+        }
+    }
+    None
+}
+
+/// Where this name stands first.
+fn first_at(name: &str, names: &[PlacedName<'_>]) -> Option<Span>
+    ensures { result ≡ first_at name.now (names_of names.now) }
+{
+    for placed in names {
+        if is_same(placed.name, name) {
+            return Some(placed.span);
+        }
+    }
+    None
+}
+
+/// The same in names that may be many: they are read from behind, beside where each of them stands first of all that was read.
+fn twice_in_many(alloc: Global, names: &[PlacedName<'_>]) -> Result<Option<Span>, Refusal>
+    ensures ok { IfOk result (λ found. found ≡ again (names_of names.now)) }
+    ensures lacks { IfErr result (λ refusal. refusal ≡ OutOfMemory) }
+{
+    let mut behind: BTreeMap<&str, Span> = BTreeMap::new(alloc);
     let mut found = None;
     let mut at = names.len();
     while at > 0 {

@@ -3,6 +3,7 @@ ghost use Rattle.tera_errors.specs.Prelude.{Tells};
 ghost use Rattle.tera_errors.specs.Fault.{syntax_error};
 
 use std::alloc::{AllocError, Global};
+use std::collections::BTreeSet;
 use tera_errors::{Error, Guess, Span, place_of};
 use tera_syntax_tokens::refusal::Reason;
 use tera_syntax_tree::Delimiters;
@@ -74,15 +75,14 @@ impl<'a> Text<'a> {
 
     // The name of two components, as it is seen in the text: what was read of it keeps no place of a name.
     fn component_twice(&self, alloc: Global) -> Result<Option<&'a str>, AllocError> {
-        let mut names: Vec<&'a str> = Vec::new(alloc);
+        let mut names: BTreeSet<&'a str> = BTreeSet::new(alloc);
         for tag in self.source.split(self.delimiters.block_start.as_str()) {
             let tag = tag.strip_prefix("-").unwrap_or(tag).trim_start();
             if let Some((name, _)) = tag.strip_prefix("component ").unwrap_or("").split_once("(") {
                 let name = name.trim();
-                if names.contains(&name) {
+                if !names.insert(name)? {
                     return Ok(Some(name));
                 }
-                names.push(name)?;
             }
         }
         Ok(None)
@@ -111,13 +111,25 @@ impl<'a> Text<'a> {
         let (before, _) = self.source.get(..at)?.rsplit_once(start)?;
         let mut open = None;
         for (tag, _) in before.match_indices(start) {
-            match first_word(self.opening(tag)) {
-                "component" => open = Some(tag),
-                "endcomponent" => open = None,
-                _ => {}
+            let rest = self.first_word_on(tag);
+            if rest.starts_with("component") {
+                open = Some(tag);
+            } else if rest.starts_with("endcomponent") {
+                open = None;
             }
         }
         open
+    }
+
+    // The text from the first word of the tag on that begins at this byte. Its end is not looked for: a comment may be full
+    // of signs that begin a tag.
+    fn first_word_on(&self, at: usize) -> &'a str {
+        let Some((_, rest)) = self.source.split_at_checked(at) else {
+            return "";
+        };
+        let start = self.delimiters.block_start.as_str();
+        let rest = rest.strip_prefix(start).unwrap_or(rest);
+        rest.strip_prefix("-").unwrap_or(rest).trim_start()
     }
 
     // A tag belongs to a statement that is not the one which is open.

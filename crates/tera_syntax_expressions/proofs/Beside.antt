@@ -3,7 +3,10 @@ use Rattle.std.proofs.Common.{◌≡◌, Bool, true, false, not, cond, ◌&&◌,
 use Rattle.std.specs.List.{list_any}
 use Rattle.std.specs.Str.{bytes_eq}
 use Rattle.std.specs.Borrow.{Bor}
-use Rattle.std.specs.HashSet.{HashSet, contains, IsEmpty}
+use Rattle.std.specs.BTreeSet.{BTreeSet, contains_by, IsEmpty, UpdatesBy}
+use Rattle.std.specs.Cmp.Lexicographic.{slice_cmp}
+use Rattle.std.specs.Ordering.{is_eq, nat_cmp}
+use Rattle.std.proofs.lemmas.Map.Text.{is_eq-slice_cmp}
 use Rattle.tera_errors.specs.Site.{Name}
 use Rattle.tera_syntax_tree.specs.Blocks.{are_distinct, is_among}
 
@@ -45,11 +48,14 @@ are_new-cons old new n names h fresh =
 pub are_new-seen : (old : Name → Bool) (n : Name) (names : List Name) → old n ≡ true → are_new old (n ∷ names) ≡ false
 are_new-seen old n names seen = ap (λ b. not (b || list_any old names) && (not (is_among n names) && are_distinct names)) seen
 
-module _ {S : Type 0} where
-  -- whether the set has a name
-  abbrev pub has : HashSet (Bor Name) S → Name → Bool
-  has seen q = contains (λ x y. bytes_eq x.now y.now) seen (record { ref_ptr = (0, 0); now = q })
+-- whether the set has a name
+abbrev pub has : BTreeSet (Bor Name) → Name → Bool
+has seen q = contains_by (λ k. slice_cmp nat_cmp q k.now) seen
 
-  -- a set without names
-  pub has-empty : (seen : HashSet (Bor Name) S) → IsEmpty seen → (q : Name) → has seen q ≡ false
-  has-empty seen empty q = ap (list_any (λ k. bytes_eq q k.now)) empty
+-- a set without names
+pub has-empty : (seen : BTreeSet (Bor Name)) → IsEmpty seen → (q : Name) → has seen q ≡ false
+has-empty seen empty q = ap (list_any (λ k. is_eq (slice_cmp nat_cmp q k.now))) empty
+
+-- a set with one name more
+pub has-more : (n : Name) (old new : BTreeSet (Bor Name)) → UpdatesBy (λ x y. slice_cmp nat_cmp x.now y.now) (λ k. slice_cmp nat_cmp n k.now) old new true → (q : Name) → has new q ≡ cond (bytes_eq n q) true (has old q)
+has-more n old new updates q = updates.0 (record { ref_ptr = (0, 0); now = q }) ∙ ap (λ b. cond b true (has old q)) (is_eq-slice_cmp n q)

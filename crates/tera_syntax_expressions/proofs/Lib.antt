@@ -12,6 +12,7 @@ pub mod ArgumentRows
 pub mod ArgumentOrder
 pub mod Passing
 pub mod Placed
+pub mod ByName
 pub mod FilterRows
 pub mod PartRows
 pub mod Fit

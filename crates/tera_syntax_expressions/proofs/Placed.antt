@@ -72,19 +72,23 @@ module _ (limit : ℕ) (sub : ℕ → Parser Deep) where
   unfolding r.argument
   argument_placed found all i m j x e f g = rw (e, f, g) refl
 
-  pub argument_unplaced : (found : Arguments) (i : Input) → position_of (text i) found ≡ None → r.argument limit sub found i ≡ None
+  -- where no argument of this name can be put, whatever its value
+  pub argument_refused : (found : Arguments) (i : Input) → ((x : Expr) → put_argument (text i) x found ≡ None) → r.argument limit sub found i ≡ None
   unfolding r.argument
-  argument_unplaced found i h = go (argument_name i) refl
+  argument_refused found i h = go (argument_name i) refl
     where
       value : (o : Parsed Deep) → and_then o (λ x. r.placed limit sub (put_argument (text i) x.expr found) x.depth) ≡ None
       value None = refl
-      value (Some p) = ap (λ o. r.placed limit sub o p.0.depth p.1) (not-placed (text i) p.0.expr found h)
+      value (Some p) = ap (λ o. r.placed limit sub o p.0.depth p.1) (h p.0.expr)
 
       go : (o : Parsed Name) → argument_name i ≡ o → and_then o (λ n. λ j. and_then (sub 0 j) (λ x. r.placed limit sub (put_argument n x.expr found) x.depth)) ≡ None
       go None e = refl
       go (Some p) e =
           let n = named-got i p.1 p.0 e in
           ap (λ n. and_then (sub 0 p.1) (λ x. r.placed limit sub (put_argument n x.expr found) x.depth)) n.2 ∙ value (sub 0 p.1)
+
+  pub argument_unplaced : (found : Arguments) (i : Input) → position_of (text i) found ≡ None → r.argument limit sub found i ≡ None
+  argument_unplaced found i h = argument_refused found i (λ x. not-placed (text i) x found h)
 
 -- behind an argument that was read stands a comma and more, or what closes: the depth is the greatest so far
 abbrev pub further : (Arguments → ℕ → Parser (Arguments × ℕ)) → ℕ → Arguments × ℕ → Parser (Arguments × ℕ)

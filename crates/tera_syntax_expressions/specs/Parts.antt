@@ -7,6 +7,7 @@ use Rattle.tera_errors.specs.Site.{Name}
 use Rattle.tera_errors.specs.declared.span.Span.{Span}
 use Rattle.tera_syntax_tree.specs.declared.expression.Item as item
 use Rattle.tera_syntax_tree.specs.declared.expression.Entry as entry
+use Rattle.tera_syntax_tree.specs.declared.expression.Expression as declared_expression
 use Rattle.tera_syntax_tree.specs.declared.component.Parameter as parameter
 use Rattle.tera_syntax_tree.specs.Definitions.{rest_names}
 use Rattle.tera_syntax_tree.specs.Tree.{Expr, Parameter, Key, Optional, Nothing, Not, Negate, And, Or, Binary, Arguments, NoArguments, MoreArguments}
@@ -24,6 +25,7 @@ use Rattle.tera_syntax_expressions.specs.declared.signs.Prefix.{Prefix}
 use Rattle.tera_syntax_expressions.specs.declared.signs.Prefix.TheVariants as sign
 use Rattle.tera_syntax_expressions.specs.declared.signs.Infix.{Infix}
 use Rattle.tera_syntax_expressions.specs.declared.signs.Infix.TheVariants as form
+use Rattle.std.specs.declared.cmp.Ordering.{Ordering}
 use Rattle.std.specs.Ordering.{match_ordering}
 use Rattle.tera_syntax_expressions.specs.Arguments.{name_cmp}
 use Rattle.tera_syntax_expressions.specs.Expressions.{Deep, expr, join_items, one_item, join_entries, one_entry}
@@ -111,6 +113,15 @@ abbrev pub position_of : Name → Arguments → Option ℕ
 position_of n NoArguments = Some 0
 position_of n (MoreArguments m y rest) =
     match_ordering (name_cmp n m) (Some 0) None (option_map suc (position_of n rest))
+
+-- the order of names that are lent
+abbrev pub by_name : Bor Name → Bor Name → Ordering
+by_name x y = name_cmp x.now y.now
+
+-- arguments by their names, in the order of these
+abbrev pub named_arguments : List (Bor Name × declared_expression.Expression) → Arguments
+named_arguments [] = NoArguments
+named_arguments (e ∷ rest) = MoreArguments e.0.now (expr_of e.1) (named_arguments rest)
 
 -- the names of a signature: those of its parameters, and of what takes all other arguments
 abbrev pub signature_names : List parameter.Parameter → Option Name → List Name

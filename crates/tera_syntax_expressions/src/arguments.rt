@@ -19,6 +19,9 @@ use tera_syntax_tokens::token::Kind;
 use tera_syntax_tokens::tokens::{Tokens, is_word};
 use tera_syntax_tree::{Argument, Called, Expression};
 
+/// With no more tokens ahead a call has 32 arguments at most. To search so short a row takes less than to build a tree.
+const FEW_TOKENS: usize = 128;
+
 impl<'s, F: Fn(Global, &mut Tokens<'_, 's>, usize, u8) -> Read<'s>> Reader<F> {
     /// `name(name = x, ..)`
     #[inline(always)]
@@ -39,8 +42,21 @@ impl<'s, F: Fn(Global, &mut Tokens<'_, 's>, usize, u8) -> Read<'s>> Reader<F> {
 
     /// Arguments with commas between, up to a parenthesis, and the greatest depth.
     #[inline(never)]
-    #[tactic(auto, using(crate::proofs::Placed::arguments_once), unfolding(crate::specs::Expressions::arguments_from))]
     pub(crate) fn arguments(&self, tokens: &mut Tokens<'_, 's>) -> Row<Argument<'s>>
+        requires { Nests self.now.below (F.pre self.now.expr) (F.post self.now.expr) }
+        ensures { FollowsRow arguments_of spec.arguments_from NoArguments self.now
+            tokens.old result tokens.new }
+    {
+        if tokens.left() > FEW_TOKENS {
+            return self.many_arguments(tokens);
+        }
+        self.few_arguments(tokens)
+    }
+
+    /// The same where they are few: each is put at its place in a row.
+    #[inline(always)]
+    #[tactic(auto, using(crate::proofs::Placed::arguments_once), unfolding(crate::specs::Expressions::arguments_from))]
+    fn few_arguments(&self, tokens: &mut Tokens<'_, 's>) -> Row<Argument<'s>>
         requires { Nests self.now.below (F.pre self.now.expr) (F.post self.now.expr) }
         ensures { FollowsRow arguments_of spec.arguments_from NoArguments self.now
             tokens.old result tokens.new }

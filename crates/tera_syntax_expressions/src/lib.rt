@@ -20,6 +20,7 @@ mod leaves;
 mod levels;
 mod literals;
 mod making;
+mod many_arguments;
 mod operators;
 /// Signatures of components.
 pub mod parameters;

@@ -1,19 +1,23 @@
 // Signatures of components.
-ghost use Rattle.std.specs.Prelude.{◌≡◌, [], map, IfOk, IfErr};
-ghost use Rattle.tera_syntax_tree.specs.Prelude.{has_fit_parameters, parameter_of, signature_of, written_option};
+ghost use Rattle.std.specs.Prelude.{◌≡◌, [], map, bytes_eq, IfOk, IfErr};
+ghost use Rattle.std.specs.Option.{option_copied};
+ghost use Rattle.tera_syntax_tree.specs.Prelude.{has_fit_parameters, is_among, parameter_of, signature_of, written_option};
 ghost use Rattle.tera_syntax_tokens.specs.Prelude.{left, Takes, input};
 ghost use Rattle.tera_syntax_tokens.specs.declared.refusal.Refusal.TheVariants.{OutOfMemory};
 ghost use Rattle.tera_syntax_expressions.specs.Parameters as spec;
-ghost use Rattle.tera_syntax_expressions.specs.Parts.{parameters_of};
+ghost use Rattle.tera_syntax_expressions.specs.Parts.{parameters_of, signature_names};
 
 use crate::headings::name;
 use crate::literals::written;
 use std::alloc::Global;
-use std::collections::HashSet;
+use std::collections::BTreeSet;
 use tera_syntax_tokens::refusal::{Reason, Refusal};
 use tera_syntax_tokens::token::Kind;
 use tera_syntax_tokens::tokens::{Tokens, is_word};
 use tera_syntax_tree::{ArgumentType, Literal, Parameter, Signature};
+
+/// Up to so many parameters are compared with one another, which takes less than to build a tree of their names.
+const FEW_PARAMETERS: usize = 16;
 
 /// What reading parameters gives: each, and the name of what takes all other arguments.
 type Parameters<'s> = Result<(Vec<Parameter<'s>>, Option<&'s str>), Refusal>;
@@ -182,7 +186,58 @@ fn is_fit(alloc: Global, signature: &Signature<'_>) -> Result<bool, Refusal>
     ensures ok { IfOk result (λ fit. fit ≡ has_fit_parameters (signature_of signature.now)) }
     ensures lacks { IfErr result (λ refusal. refusal ≡ OutOfMemory) }
 {
-    let mut seen: HashSet<&str> = HashSet::new(alloc);
+    if signature.parameters.len() > FEW_PARAMETERS {
+        return are_many_fit(alloc, signature);
+    }
+    Ok(are_few_fit(signature))
+}
+
+/// The same where they are few: each is compared with those behind it.
+fn are_few_fit(signature: &Signature<'_>) -> bool
+    ensures { result ≡ has_fit_parameters (signature_of signature.now) }
+{
+    let parameters = signature.parameters.as_slice();
+    if is_taken("body", parameters, signature.rest) {
+        return false;
+    }
+    for at in 0..parameters.len() {
+        if is_taken(parameters[at].name, &parameters[at + 1..], signature.rest) {
+            return false;
+        }
+    }
+    true
+}
+
+/// Whether one of the parameters has this name, or what takes all other arguments.
+fn is_taken(name: &str, parameters: &[Parameter<'_>], rest: Option<&str>) -> bool
+    ensures { let names = signature_names parameters.now (option_copied rest.entry) in
+        result ≡ is_among name.now names }
+{
+    for parameter in parameters {
+        if is_same(name, parameter.name) {
+            return true;
+        }
+    }
+    match rest {
+        Some(rest) => is_same(name, rest),
+        None => false,
+    }
+}
+
+/// Whether the names are the same. Their order is told in fewer steps than `==` takes where they are equally long.
+#[inline(always)]
+pub fn is_same(name: &str, other: &str) -> bool
+    ensures { result ≡ bytes_eq name.now other.now }
+{
+    name.as_bytes().cmp(&other.as_bytes()).is_eq()
+}
+
+/// The same where they may be many: each is looked up among those before it.
+fn are_many_fit(alloc: Global, signature: &Signature<'_>) -> Result<bool, Refusal>
+    ensures ok { IfOk result (λ fit. fit ≡ has_fit_parameters (signature_of signature.now)) }
+    ensures lacks { IfErr result (λ refusal. refusal ≡ OutOfMemory) }
+{
+    let mut seen: BTreeSet<&str> = BTreeSet::new(alloc);
     seen.insert("body")?;
     for parameter in signature.parameters.iter() {
         if !seen.insert(parameter.name)? {

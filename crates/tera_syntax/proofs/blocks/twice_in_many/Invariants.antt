@@ -1,5 +1,5 @@
 use Rattle.tera_syntax.proofs.Again.{AreRead, position}
-use Rattle.tera_syntax.proofs.blocks.twice.Given as goal
+use Rattle.tera_syntax.proofs.blocks.twice_in_many.Given as goal
 
 abbrev pub invariant-loop-at : goal.invariant-loop-at
 invariant-loop-at l = AreRead l.names l.at (position l.behind) l.found

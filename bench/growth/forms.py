@@ -89,12 +89,13 @@ def left_at_once(size):
     return shown(turns(size, "{% for x in [1] %}{% break %}" + "{{ x }}" * size + "{% endfor %}"))
 
 
+SIZE = 1_000
 ROWS = [
-    *(Row(name, 4_000, both(form)) for name, form in STATEMENTS.items()),
-    Row("blocks and `super()`, in a loop", 4_000, blocks),
-    Row("in a loop, an empty loop around as many tags of its name", 1_000, empty_loops("{{ x }}")),
-    Row("in a loop, an empty loop around as many tags of another name", 1_000, empty_loops("{{ i }}")),
-    Row("in a loop, a choice around as many tags", 1_000, not_taken),
-    Row("in a loop, a loop around `break` and as many tags", 1_000, left_at_once),
-    *(Row(f"an expression: {name}", 4_000, both(f"{{{{ {form} }}}}")) for name, form in EXPRESSIONS.items()),
+    *(Row(name, SIZE, both(form)) for name, form in STATEMENTS.items()),
+    Row("blocks and `super()`, in a loop", 5_000, blocks),
+    Row("in a loop, an empty loop around as many tags of its name", 800, empty_loops("{{ x }}")),
+    Row("in a loop, an empty loop around as many tags of another name", 800, empty_loops("{{ i }}")),
+    Row("in a loop, a choice around as many tags", 800, not_taken),
+    Row("in a loop, a loop around `break` and as many tags", 800, left_at_once),
+    *(Row(f"an expression: {name}", SIZE, both(f"{{{{ {form} }}}}")) for name, form in EXPRESSIONS.items()),
 ]

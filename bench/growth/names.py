@@ -2,11 +2,11 @@
 from scripts import ORDERS, Row, added, each, page, shown, turns
 
 
-def ordered(name, size, script, orders="scattered"):
-    """A row for each order of names."""
+def ordered(name, size, script, orders="scattered", collide=0):
+    """A row for each order of names. Where they collide, so many are enough to tell."""
 
     def row(order):
-        return Row(f"{name}, {order}", size, lambda count: script(ORDERS[order](count)))
+        return Row(f"{name}, {order}", collide if order == "colliding" and collide else size, lambda count: script(ORDERS[order](count)))
 
     return [row(order) for order in orders.split()]
 
@@ -127,29 +127,29 @@ def preview_of_parameters(names):
 
 ALL = "rising falling scattered colliding"
 ROWS = [
-    *ordered("arguments of a filter", 6_000, arguments, ALL),
-    *ordered("arguments of a function", 6_000, arguments_of_a_function),
+    *ordered("arguments of a filter", 400, arguments, ALL),
+    *ordered("arguments of a function", 400, arguments_of_a_function),
     *ordered("attributes of a component's call", 4_000, attributes, ALL),
     *ordered("entries of a map", 6_000, entries, ALL),
-    *ordered("entries of a map, and a spread", 4_000, entries_and_a_spread, ALL),
-    *ordered("parameters of a component", 6_000, parameters, ALL),
-    *ordered("parameters with defaults, put out", 3_000, defaults),
-    *ordered("implicit parameters, put out", 2_000, implicit),
-    *ordered("blocks of a template", 6_000, blocks, ALL),
-    *ordered("blocks that are all overridden", 2_000, overridden, "rising scattered"),
-    *ordered("components of a template, each called", 3_000, components, ALL),
-    *ordered("components of a text, each called", 2_000, own_components, ALL),
-    *ordered("names that are set, put out", 3_000, sets, ALL),
-    *ordered("the same in a loop's body", 2_000, sets_in_a_loop),
-    *ordered("names set for all in a loop's body, put out", 2_000, sets_for_all),
-    *ordered("names that are set in an include, put out", 2_000, set_in_an_include),
-    *ordered("names that are set, put out by an include", 2_000, set_around_an_include),
-    *ordered("names of the context, put out", 6_000, read_of_context, ALL),
-    *ordered("the same in a loop's body", 6_000, read_in_a_loop),
-    *ordered("names of the context, as `__tera_context`", 6_000, all_of_context),
-    *ordered("names of the context, and as many renderings", 3_000, renderings),
-    *ordered("names of the context, all arguments of `@@ component`", 6_000, arguments_of_a_component),
-    *ordered("names of the context, all implicit in `@@ component`", 3_000, implicit_of_a_component),
-    *ordered("names of the context, and as many components in `@@ preview`", 500, previews),
-    *ordered("names of the context, all parameters in `@@ preview`", 3_000, preview_of_parameters),
+    *ordered("entries of a map, and a spread", 4_000, entries_and_a_spread),
+    *ordered("parameters of a component", 5_000, parameters, ALL, collide=250),
+    *ordered("parameters with defaults, put out", 1_200, defaults),
+    *ordered("implicit parameters, put out", 800, implicit),
+    *ordered("blocks of a template", 1_500, blocks, ALL, collide=400),
+    *ordered("blocks that are all overridden", 1_000, overridden),
+    *ordered("components of a template, each called", 1_500, components, ALL, collide=400),
+    *ordered("components of a text, each called", 1_500, own_components, ALL, collide=400),
+    *ordered("names that are set, put out", 800, sets, ALL, collide=150),
+    *ordered("names that are set in a loop's body, put out", 600, sets_in_a_loop),
+    *ordered("names set for all in a loop's body, put out", 600, sets_for_all),
+    *ordered("names that are set in an include, put out", 600, set_in_an_include),
+    *ordered("names that are set, put out by an include", 600, set_around_an_include),
+    *ordered("names of the context, put out", 3_000, read_of_context, ALL, collide=150),
+    *ordered("names of the context, put out in a loop", 2_000, read_in_a_loop),
+    *ordered("names of the context, as `__tera_context`", 3_000, all_of_context),
+    *ordered("names of the context, and as many renderings", 1_500, renderings),
+    *ordered("names of the context, all arguments of `@@ component`", 2_000, arguments_of_a_component),
+    *ordered("names of the context, all implicit in `@@ component`", 250, implicit_of_a_component),
+    *ordered("names of the context, and as many components in `@@ preview`", 80, previews),
+    *ordered("names of the context, all parameters in `@@ preview`", 250, preview_of_parameters),
 ]

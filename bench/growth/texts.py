@@ -38,7 +38,7 @@ REFUSED_TEXTS = {
     "filters in a row": ("{{ name", " | str", " }}", "SyntaxError"),
     "digits": ("{{ ", "1", " }}", "SyntaxError"),
 }
-BYTES = 1_000_000
+BYTES = 1 << 18
 
 
 def row(name, front, repeated, end, fault=""):

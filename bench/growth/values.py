@@ -71,7 +71,7 @@ def of_text(template):
     """The template of a size, beside texts of that size."""
 
     def script(size):
-        texts = {"t": "ab" * (size // 2), "w": " \n" * (size // 4) + "ab " * (size // 6), "d": "0" * size}
+        texts = {"t": ("ab" * size)[:size], "w": " \n" * (size // 4) + "ab " * (size // 6), "d": "0" * size}
         return "".join(bound(*it) for it in texts.items()) + shown(template.replace("SIZE", str(size)))
 
     return script
@@ -86,10 +86,10 @@ def counted(expression):
 
 
 ROWS = [
-    *(Row(f"a text: {name}", 200_000, of_text(counted(it))) for name, it in OF_TEXTS.items()),
-    *(Row(f"an array: {name}", 5_000, of(SCATTERED + counted(it))) for name, it in OF_ARRAYS.items()),
-    *(Row(f"an array of maps: {name}", 4_000, of(PAIRS + counted(it))) for name, it in OF_PAIRS.items()),
-    *(Row(f"a map: {name}", 2_000, of(MAPS + counted(it))) for name, it in OF_MAPS.items()),
-    *(Row(f"a loop: {name}", 4_000, of_text(MAP + it)) for name, it in OF_TURNS.items()),
-    *(Row(f"a loop: {name}", 2_000, of_text(ARRAY + it), is_copy=True) for name, it in COPIES.items()),
+    *(Row(f"a text: {name}", 50_000, of_text(counted(it))) for name, it in OF_TEXTS.items()),
+    *(Row(f"an array: {name}", 6_000, of(SCATTERED + counted(it))) for name, it in OF_ARRAYS.items()),
+    *(Row(f"an array of maps: {name}", 5_000, of(PAIRS + counted(it))) for name, it in OF_PAIRS.items()),
+    *(Row(f"a map: {name}", 1_000, of(MAPS + counted(it))) for name, it in OF_MAPS.items()),
+    *(Row(f"a loop: {name}", 1_500, of_text(MAP + it)) for name, it in OF_TURNS.items()),
+    *(Row(f"a loop: {name}", 300, of_text(ARRAY + it), is_copy=True) for name, it in COPIES.items()),
 ]

@@ -35,8 +35,8 @@ def timed(program, text, rounds):
     return min(times), rest
 
 
-def used(program, script):
-    """The seconds that the processor runs the program, and its peak memory in bytes."""
+def spent(program, script):
+    """The seconds that a processor runs the program, which other load moves less than those of a clock."""
     with tempfile.TemporaryFile() as source:
         source.write(script.encode())
         source.seek(0)
@@ -45,7 +45,7 @@ def used(program, script):
     child.returncode = os.waitstatus_to_exitcode(status)
     if child.returncode != 0:
         raise subprocess.CalledProcessError(child.returncode, [program])
-    return usage.ru_utime + usage.ru_stime, usage.ru_maxrss * 1024
+    return usage.ru_utime + usage.ru_stime
 
 
 def counted(program, script):

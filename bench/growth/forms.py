@@ -90,12 +90,15 @@ def left_at_once(size):
 
 
 SIZE = 1_000
+# What costs little is taken more often.
+LIGHT = {"text and comments": 10_000, "`{{ }}`": 5_000, "tags that trim": 5_000, "`raw`": 5_000, "`set`": 2_000, "`set_global`": 2_000, "`include`": 2_000}
+LIGHT |= {"choices": 3_000, "parentheses": 2_000}
 ROWS = [
-    *(Row(name, SIZE, both(form)) for name, form in STATEMENTS.items()),
+    *(Row(name, LIGHT.get(name, SIZE), both(form)) for name, form in STATEMENTS.items()),
     Row("blocks and `super()`, in a loop", 5_000, blocks),
     Row("in a loop, an empty loop around as many tags of its name", 800, empty_loops("{{ x }}")),
-    Row("in a loop, an empty loop around as many tags of another name", 800, empty_loops("{{ i }}")),
-    Row("in a loop, a choice around as many tags", 800, not_taken),
-    Row("in a loop, a loop around `break` and as many tags", 800, left_at_once),
-    *(Row(f"an expression: {name}", SIZE, both(f"{{{{ {form} }}}}")) for name, form in EXPRESSIONS.items()),
+    Row("in a loop, an empty loop around as many tags of another name", 4_000, empty_loops("{{ i }}")),
+    Row("in a loop, a choice around as many tags", 8_000, not_taken),
+    Row("in a loop, a loop around `break` and as many tags", 4_000, left_at_once),
+    *(Row(f"an expression: {name}", LIGHT.get(name, SIZE), both(f"{{{{ {form} }}}}")) for name, form in EXPRESSIONS.items()),
 ]

@@ -1,5 +1,5 @@
 """Rows of many templates, of blocks in lineages, and of batches that are refused."""
-from scripts import ORDERS, Row, added, each, falling, page, rising, scattered, shown, waiting
+from scripts import ORDERS, Row, added, each, page, rising, scattered, shown
 
 SMALL = "<p>{{ name }}</p>{% block content %}{{ text }}{% endblock %}"
 
@@ -60,6 +60,12 @@ def children(size):
     """Many children of one parent, each rendered."""
     row = [(name, '{% extends "p" %}{% block b %}y{% endblock %}') for name in scattered(size)]
     return added([("p", "{% block b %}x{% endblock %}"), *row], "".join(f"@@ render {name}\n" for name, _ in row))
+
+
+def includers(size):
+    """Many templates that include one, each rendered. That one is the last by its name."""
+    names = scattered(size)
+    return added([("part", "x"), *((name, '{% include "part" %}') for name in names)], each("@@ render N\n", names))
 
 
 def include_of_each(size):
@@ -151,10 +157,11 @@ ROWS = [
     Row("a template that is added again and again", 3_000, in_place),
     Row("templates of which each includes the next", 2_000, in_a_row('{% include "N" %}')),
     Row("templates of which each extends the next", 2_000, in_a_row('{% extends "N" %}')),
-    Row("the same with a block and `super()`", 1_500, in_a_row('{% extends "N" %}{% block b %}{{ super() }}{% endblock %}', "{% block b %}x{% endblock %}")),
+    Row("the same, with a block and `super()`", 1_500, in_a_row('{% extends "N" %}{% block b %}{{ super() }}{% endblock %}', "{% block b %}x{% endblock %}")),
     Row("a lineage with a block in each parent's block", 250, nested),
     Row("a lineage of which each overrides another block", 250, unlike_blocks),
     Row("children of one parent, each rendered", 800, children),
+    Row("templates that include one, each rendered", 1_000, includers),
     Row("includes of as many templates", 1_000, include_of_each),
     Row("includes of one template", 5_000, includes_of_one),
     Row("includes of a child whose parent has as many blocks", 1_500, includes_of_lineage),

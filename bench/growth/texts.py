@@ -38,7 +38,7 @@ REFUSED_TEXTS = {
     "filters in a row": ("{{ name", " | str", " }}", "SyntaxError"),
     "digits": ("{{ ", "1", " }}", "SyntaxError"),
 }
-BYTES = 1 << 18
+BYTES = 1 << 19
 
 
 def row(name, front, repeated, end, fault=""):
@@ -60,6 +60,6 @@ def long_names(size):
 ROWS = [
     *(row(name, *text) for name, text in TEXTS.items()),
     Row("a long text of signs that are escaped", BYTES, escaped),
-    Row("a long name of a variable, a block, a component and a template", BYTES, long_names),
+    Row("a long name of a variable, a block, a component and a template", 100_000, long_names),
 ]
 REFUSED = [row(name, *text) for name, text in REFUSED_TEXTS.items()]

@@ -130,7 +130,7 @@ ROWS = [
     *ordered("arguments of a filter", 400, arguments, ALL),
     *ordered("arguments of a function", 400, arguments_of_a_function),
     *ordered("attributes of a component's call", 4_000, attributes, ALL),
-    *ordered("entries of a map", 6_000, entries, ALL),
+    *ordered("entries of a map", 5_000, entries, ALL),
     *ordered("entries of a map, and a spread", 4_000, entries_and_a_spread),
     *ordered("parameters of a component", 5_000, parameters, ALL, collide=250),
     *ordered("parameters with defaults, put out", 1_200, defaults),

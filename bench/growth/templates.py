@@ -174,7 +174,7 @@ ROWS = [
 ]
 
 REFUSED = [
-    Row("templates, each with a missing include", 800, lost('{% include "xN" %}'), "Message"),
+    Row("templates, each with a missing include", 500, lost('{% include "xN" %}'), "Message"),
     Row("templates, each with a missing parent", 1_000, lost('{% extends "xN" %}'), "MissingParent"),
     Row("templates, each with an unknown filter", 1_000, lost("{{ 1 | xN }}"), "Message"),
     Row("templates, each with an unknown component", 1_000, lost("{{ <N/> }}"), "Message"),

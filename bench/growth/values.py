@@ -62,7 +62,7 @@ OF_TURNS = {
 }
 COPIES = [
     ("`t[i]`", 500, "{% for i in a %}{{ t[i] }}{% endfor %}"),
-    ("`b = b ~ i`", 3_000, "{% set b = '' %}{% for i in a %}{% set_global b = b ~ i %}{% endfor %}{{ b }}"),
+    ("`b = b ~ i`", 2_000, "{% set b = '' %}{% for i in a %}{% set_global b = b ~ i %}{% endfor %}{{ b }}"),
     ("`b = [...b, i]`", 300, "{% set b = [] %}{% for i in a %}{% set_global b = [...b, i] %}{% endfor %}{{ b | length }}"),
 ]
 
@@ -88,7 +88,7 @@ def counted(expression):
 ROWS = [
     *(Row(f"a text: {name}", 100_000, of_text(counted(it))) for name, it in OF_TEXTS.items()),
     *(Row(f"an array: {name}", 6_000, of(SCATTERED + counted(it))) for name, it in OF_ARRAYS.items()),
-    *(Row(f"an array of maps: {name}", 5_000, of(PAIRS + counted(it))) for name, it in OF_PAIRS.items()),
+    *(Row(f"an array of maps: {name}", 3_000, of(PAIRS + counted(it))) for name, it in OF_PAIRS.items()),
     *(Row(f"a map: {name}", 1_000, of(MAPS + counted(it))) for name, it in OF_MAPS.items()),
     *(Row(f"a loop: {name}", 1_500, of_text(MAP + it)) for name, it in OF_TURNS.items()),
     *(Row(f"a loop: {name}", size, of_text(ARRAY + it), is_copy=True) for name, size, it in COPIES),

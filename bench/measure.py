@@ -1,8 +1,8 @@
 """How long work takes, and how many instructions a program runs."""
+import os
 import subprocess
+import tempfile
 import time
-
-import jinja2
 
 
 def best(rounds, work):
@@ -35,11 +35,30 @@ def timed(program, text, rounds):
     return min(times), rest
 
 
+def spent(program, script):
+    """The seconds that a processor runs the program, which other load moves less than those of a clock."""
+    with tempfile.TemporaryFile() as source:
+        source.write(script.encode())
+        source.seek(0)
+        child = subprocess.Popen([program], stdin=source, stdout=subprocess.DEVNULL)
+        _, status, usage = os.wait4(child.pid, 0)
+    child.returncode = os.waitstatus_to_exitcode(status)
+    if child.returncode != 0:
+        raise subprocess.CalledProcessError(child.returncode, [program])
+    return usage.ru_utime + usage.ru_stime
+
+
+def counted(program, script):
+    """How many instructions callgrind counts, and what the program prints."""
+    command = ["valgrind", "--tool=callgrind", "--callgrind-out-file=/dev/null", program]
+    run = subprocess.run(command, input=script.encode(), capture_output=True, check=True)
+    words = run.stderr.decode().split()
+    return int(words[words.index("Collected") + 2]), run.stdout.decode()
+
+
 def instructions(program, script):
     """How many instructions callgrind counts."""
-    command = ["valgrind", "--tool=callgrind", "--callgrind-out-file=/dev/null", program]
-    words = subprocess.run(command, input=script.encode(), capture_output=True, check=True).stderr.decode().split()
-    return int(words[words.index("Collected") + 2])
+    return counted(program, script)[0]
 
 
 def a_round(program, text):
@@ -50,5 +69,7 @@ def a_round(program, text):
 
 def rendered(text, context):
     """The seconds of Jinja2's fastest rendering of nine, and its text."""
+    import jinja2
+
     template = jinja2.Environment(autoescape=True).from_string(text)
     return best(9, lambda: template.render(**context)), template.render(**context)

@@ -135,13 +135,11 @@ impl<'a> Linked<'a> {
         if circle.len() <= 1 {
             return Ok(words);
         }
-        let mut before = ": it";
-        for position in circle.iter().skip(1).take(MOST) {
+        for (passed, position) in circle.iter().skip(1).take(MOST).enumerate() {
             let name = self.name(*position);
-            words.push_str(before)?;
-            let step = format!(in self.alloc; " {does} `{name}`")?;
+            let joint = if passed == 0 { ": it" } else { ", which" };
+            let step = format!(in self.alloc; "{joint} {does} `{name}`")?;
             words.push_str(step.as_str())?;
-            before = ", which";
         }
         if circle.len() <= MOST {
             let step = format!(in self.alloc; ", which {does} `{first}`")?;
@@ -152,7 +150,7 @@ impl<'a> Linked<'a> {
 
     // The component that two templates define, and both of them.
     fn tie(&self) -> Result<Option<String>, AllocError> {
-        let Some(template) = self.tied() else {
+        let Some(template) = self.template_with_tie() else {
             return Ok(None);
         };
         let above = self.definers_beside(template)?;
@@ -169,7 +167,7 @@ impl<'a> Linked<'a> {
     }
 
     // The first template that ties with one before it.
-    fn tied(&self) -> Option<&'a Template> {
+    fn template_with_tie(&self) -> Option<&'a Template> {
         match self.templates.get(self.tie?) {
             Some(template) => Some(template),
             None => None,

@@ -1,7 +1,10 @@
 //! Faults that are told while memory is refused: at the first request, at the second one, and so on.
-use scarce_memory::{Tried, refusals, with_budget};
+use scarce_memory::{Tried, refusals_of_little, with_budget, with_pieces};
 use std::alloc::Global;
 use tera::{Context, Error, ErrorKind, Span, Tera};
+
+/// How many pieces of memory are left free: there are hundreds of trials.
+const PIECES: usize = 1_024;
 
 const BATCH: [(&str, &str); 3] = [
     ("page.html", "{% include 'list.html' %}"),
@@ -69,17 +72,16 @@ fn try_absent(alloc: Global, engine: &Tera, context: &Context, budget: usize) ->
 
 fn renderings_are_told(alloc: Global, engine: &Tera) -> bool {
     let context = Context::new(alloc);
-    refusals(
-        alloc,
-        |budget| try_rendering(alloc, engine, &context, budget),
-    ) > Some(0)
-        && refusals(alloc, |budget| try_absent(alloc, engine, &context, budget)) > Some(0)
+    refusals_of_little(|budget| try_rendering(alloc, engine, &context, budget)) > Some(0)
+        && refusals_of_little(|budget| try_absent(alloc, engine, &context, budget)) > Some(0)
 }
 
 fn are_told(alloc: Global) -> bool {
     match Tera::new(alloc) {
         Ok(mut engine) => {
-            engine.add_raw_templates(&BATCH).is_ok() && renderings_are_told(alloc, &engine)
+            let is_added = engine.add_raw_templates(&BATCH).is_ok();
+            is_added
+                && with_pieces(alloc, PIECES, || renderings_are_told(alloc, &engine)) == Some(true)
         }
         Err(_) => false,
     }
@@ -103,8 +105,12 @@ fn try_adding(alloc: Global, budget: usize) -> Tried {
     }
 }
 
+fn is_missing_told(alloc: Global) -> bool {
+    refusals_of_little(|budget| try_adding(alloc, budget)) > Some(0)
+}
+
 #[test]
 fn what_is_missing_is_told_where_memory_is_refused(rt: HostRuntime) {
     let alloc = rt.alloc();
-    assert!(rt; refusals(alloc, |budget| try_adding(alloc, budget)) > Some(0));
+    assert!(rt; with_pieces(alloc, PIECES, || is_missing_told(alloc)) == Some(true));
 }

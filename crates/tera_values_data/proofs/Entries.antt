@@ -3,7 +3,7 @@ use Rattle.std.proofs.Common.{◌≡◌, ℕ, ◌<◌, List, length, get_or, set
 use Rattle.std.proofs.lemmas.List.{length-map, get_or-map, map-set, map-append}
 use Rattle.tera_values_data.specs.Val.{Val, KeyVal, kbool, undefined}
 use Rattle.tera_values_data.specs.View.{key_view, entry_view, entry_views}
-use Rattle.tera_values_data.specs.Index.{key_at, nth_key, IsIndex}
+use Rattle.tera_values_data.specs.Index.{key_at, nth_key, IsIndex, IsRising}
 use Rattle.tera_values_data.specs.declared.value.Entry.{Entry}
 use Rattle.tera_values_data.proofs.Positions.{value_at}
 
@@ -16,11 +16,14 @@ key_of all i d h = ap (λ (e : KeyVal × Val). e.0) (get_or-map entry_view all i
 pub value_of : (all : List Entry) (i : ℕ) (d : Entry) → i < length all → value_at (entry_views all) i ≡ (get_or all i d).value
 value_of all i d h = ap (λ (e : KeyVal × Val). e.1) (get_or-map entry_view all i d (kbool false, undefined) h)
 
-pub position_below : (by_key : List ℕ) (all : List Entry) → IsIndex by_key (entry_views all) → (p : ℕ) → p < length by_key → get_or by_key p 0 < length all
-position_below by_key all ix p h = omega (arith, ix.below p h, views_length all)
+pub row_below : (by_key : List ℕ) (all : List Entry) → IsRising by_key (entry_views all) → (p : ℕ) → p < length by_key → get_or by_key p 0 < length all
+row_below by_key all ix p h = omega (arith, ix.below p h, views_length all)
 
-pub nth_key_of : (by_key : List ℕ) (all : List Entry) → IsIndex by_key (entry_views all) → (p : ℕ) (d : Entry) → p < length by_key → nth_key by_key (entry_views all) p ≡ key_view (get_or all (get_or by_key p 0) d).key
-nth_key_of by_key all ix p d h = key_of all _ d (position_below by_key all ix p h)
+pub position_below : (by_key : List ℕ) (all : List Entry) → IsIndex by_key (entry_views all) → (p : ℕ) → p < length by_key → get_or by_key p 0 < length all
+position_below by_key all ix p h = row_below by_key all (record { below = ix.below; rising = ix.rising }) p h
+
+pub nth_key_of : (by_key : List ℕ) (all : List Entry) → IsRising by_key (entry_views all) → (p : ℕ) (d : Entry) → p < length by_key → nth_key by_key (entry_views all) p ≡ key_view (get_or all (get_or by_key p 0) d).key
+nth_key_of by_key all ix p d h = key_of all _ d (row_below by_key all ix p h)
 
 -- a new value at a position
 pub write_views : (all : List Entry) (i : ℕ) (r : Entry) (w : Val) → i < length all → r ≡ get_or all i r → (e : Entry) → key_view e.key ≡ key_view r.key → e.value ≡ w → entry_views (set all i e) ≡ set (entry_views all) i (key_at (entry_views all) i, w)

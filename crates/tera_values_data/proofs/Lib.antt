@@ -2,6 +2,8 @@ pub mod Stretches
 pub mod Lanes
 pub mod Keys
 pub mod Positions
+pub mod Pieces
+pub mod Ordered
 pub mod Entries
 pub mod Pairs
 pub mod Sorted

@@ -116,19 +116,6 @@ module _ (by_key : List ℕ) (es : Pairs) (ix : IsIndex by_key es) where
   pub pushed : (k : KeyVal) (p : ℕ) (v : Val) → IsGapFor by_key es k p → insert_pair es k v ≡ es ++ (k, v) ∷ []
   pushed k p v gap = insert_absent es k v (none_in_gap k p gap)
 
-  -- the steps of the search
-  pub less_before : (k : KeyVal) (m : ℕ) → m < length by_key → key_cmp (nth_key by_key es m) k ≡ Less → (j : ℕ) → j < m + 1 → key_cmp (nth_key by_key es j) k ≡ Less
-  less_before k m h less j lt = elim (cases_lt j m) [
-    | inl below ↦ keys_total.trans (nth_key by_key es j) (nth_key by_key es m) k (ix.rising j m below h) less
-    | inr above ↦ let same : m ≡ j = omega arith in rw same at less
-  ]
-
-  pub greater_from : (k : KeyVal) (m : ℕ) → key_cmp (nth_key by_key es m) k ≡ Greater → (j : ℕ) → m ≤ j → j < length by_key → key_cmp (nth_key by_key es j) k ≡ Greater
-  greater_from k m greater j le h = elim (cases_lt m j) [
-    | inl above ↦ flip_Less k (nth_key by_key es j) (keys_total.trans k (nth_key by_key es m) (nth_key by_key es j) (flip_Greater (nth_key by_key es m) k greater) (ix.rising m j above h))
-    | inr below ↦ let same : m ≡ j = omega arith in rw same at greater
-  ]
-
   -- a write of a value keeps the index
   pub kept : (i : ℕ) (v : Val) → IsIndex by_key (set es i (key_at es i, v))
   kept i v = record {

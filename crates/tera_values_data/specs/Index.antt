@@ -21,6 +21,12 @@ pub record IsIndex (by_key : List ℕ) (es : List (KeyVal × Val)) : Type 0 wher
   pub reached : (i : ℕ) → i < length es
       → (p : ℕ) × (p < length by_key) × (slice_index_or by_key p 0 ≡ i)
 
+-- Of some positions: they are positions of entries, and the keys rise along them.
+pub record IsRising (by_key : List ℕ) (es : List (KeyVal × Val)) : Type 0 where
+  pub below : (p : ℕ) → p < length by_key → slice_index_or by_key p 0 < length es
+  pub rising : (p q : ℕ) → p < q → q < length by_key
+      → key_cmp (nth_key by_key es p) (nth_key by_key es q) ≡ Less
+
 -- the key stands p-th
 pub record IsAt (by_key : List ℕ) (es : List (KeyVal × Val)) (k : KeyVal) (p : ℕ) : Type 0 where
   pub in_range : p < length by_key

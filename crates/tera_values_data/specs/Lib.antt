@@ -5,6 +5,7 @@ pub mod View
 pub mod Falls
 pub mod Keys
 pub mod Index
+pub mod KeyOrder
 pub mod Access
 pub mod Growth
 pub mod Printed

@@ -83,7 +83,7 @@ impl Map {
     {
         match &self.table {
             Some(table) => {
-                let by_key = table.by_key.clone()?;
+                let by_key = table.by_key.try_clone()?;
                 let all = copy_entries(self.alloc, table.all.as_slice())?;
                 Ok(Map {
                     alloc: self.alloc,
@@ -129,12 +129,16 @@ fn share_items(alloc: Global, items: &mut [Value]) -> TeraResult<()>
     Ok(())
 }
 
-// The value in shared form, where it lies.
+// The value in shared form, where it lies. Most values are that already.
 #[cycle(sharing)]
 fn share(alloc: Global, value: &mut Value) -> TeraResult<()>
     ensures ok { OnOk result (value.new ≡ value.old) }
     ensures lacks { IfErr result Lacks }
 {
+    match &value.node {
+        Node::Array(_) | Node::Map(_) => {}
+        _ => return Ok(()),
+    }
     let whole = replace(value, Value::undefined());
     let kept = whole.shared(alloc)?;
     let hole = replace(value, kept);

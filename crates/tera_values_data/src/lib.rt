@@ -7,6 +7,7 @@ pub mod copy;
 pub mod escape;
 pub mod item;
 pub mod key;
+mod key_order;
 pub mod laws;
 pub mod map;
 pub mod order;

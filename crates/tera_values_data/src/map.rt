@@ -4,9 +4,11 @@ ghost use Rattle.tera_errors.specs.Prelude.{Lacks};
 ghost use Rattle.tera_values_data.specs.Val.{ktext};
 ghost use Rattle.tera_values_data.specs.View.{key_view, wanted_view, entry_views};
 ghost use Rattle.tera_values_data.specs.Index.{IsIndex, IsDistinct};
+ghost use Rattle.tera_values_data.specs.KeyOrder.{left};
 ghost use Rattle.tera_values_data.specs.Access.{find, insert_pair};
 
 use crate::key::{Key, Wanted};
+use crate::key_order::Walk;
 use crate::value::{Entry, Map, Table, Value};
 use std::alloc::Global;
 use tera_errors::TeraResult;
@@ -29,13 +31,13 @@ impl Map {
         }
     }
 
-    /// The positions of the entries, sorted by key.
-    pub(crate) fn by_key(&self) -> &[usize]
-        ensures { IsIndex result.now self.now }
+    /// The positions of the entries, in the order of their keys.
+    pub(crate) fn by_key(&self) -> Walk<'_>
+        ensures { IsIndex (left result) self.now }
     {
         match &self.table {
-            Some(table) => table.by_key.as_slice(),
-            None => &[],
+            Some(table) => table.by_key.walk(),
+            None => Walk::nowhere(),
         }
     }
 

@@ -3,10 +3,12 @@ ghost use Rattle.std.specs.Prelude.{◌≡◌};
 ghost use Rattle.std.specs.Cmp.Lexicographic.{slice_cmp};
 ghost use Rattle.tera_values_data.specs.View.{entry_views};
 ghost use Rattle.tera_values_data.specs.Index.{IsIndex, picked};
+ghost use Rattle.tera_values_data.specs.KeyOrder.{left};
 ghost use Rattle.tera_values_data.specs.Order.{rank, order, pair_order, comparable, checked_order, checked_items};
 ghost use Rattle.tera_values_data.specs.Finite.{IsSameMap};
 
 use crate::key::compare_key;
+use crate::key_order::Walk;
 use crate::shape::Shape;
 use crate::value::{Entry, Map, Value};
 use std::cmp::Ordering;
@@ -81,16 +83,20 @@ fn compare_items(a: &[Value], b: &[Value]) -> Ordering
 
 /// The entries of two maps, each in the order of its keys.
 #[cycle(comparing)]
-fn compare_entries(a: &[Entry], a_keys: &[usize], b: &[Entry], b_keys: &[usize]) -> Ordering
-    requires first { IsIndex a_keys.now (entry_views a.now) }
-    requires second { IsIndex b_keys.now (entry_views b.now) }
-    ensures { result ≡ slice_cmp pair_order (picked a_keys.now (entry_views a.now))
-        (picked b_keys.now (entry_views b.now)) }
+fn compare_entries(a: &[Entry], a_keys: Walk<'_>, b: &[Entry], b_keys: Walk<'_>) -> Ordering
+    requires first { IsIndex (left a_keys) (entry_views a.now) }
+    requires second { IsIndex (left b_keys) (entry_views b.now) }
+    ensures { result ≡ slice_cmp pair_order (picked (left a_keys.entry) (entry_views a.now))
+        (picked (left b_keys.entry) (entry_views b.now)) }
 {
-    let mut position = 0;
-    while position < a_keys.len() && position < b_keys.len() {
-        let x = &a[a_keys[position]];
-        let y = &b[b_keys[position]];
+    let mut a_keys = a_keys;
+    let mut b_keys = b_keys;
+    while let Some(i) = a_keys.next() {
+        let Some(j) = b_keys.next() else {
+            return Ordering::Greater;
+        };
+        let x = &a[i];
+        let y = &b[j];
         let keys = compare_key(&x.key, &y.key.wanted());
         if keys.is_ne() {
             return keys;
@@ -99,9 +105,11 @@ fn compare_entries(a: &[Entry], a_keys: &[usize], b: &[Entry], b_keys: &[usize])
         if values.is_ne() {
             return values;
         }
-        position += 1;
     }
-    a_keys.len().cmp(&b_keys.len())
+    match b_keys.next() {
+        Some(_) => Ordering::Less,
+        None => Ordering::Equal,
+    }
 }
 
 impl Value {

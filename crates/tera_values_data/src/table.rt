@@ -3,35 +3,15 @@ ghost use Rattle.std.specs.Prelude.{◌≡◌, [], IfOk, IfErr, OnOk, OnErr, IsS
 ghost use Rattle.tera_errors.specs.Prelude.{Lacks};
 ghost use Rattle.tera_values_data.specs.Val.{ktext};
 ghost use Rattle.tera_values_data.specs.View.{key_view, wanted_view, entry_views};
-ghost use Rattle.tera_values_data.specs.Index.{IsIndex, IsAt, IsGapFor, IsDistinct};
+ghost use Rattle.tera_values_data.specs.Index.{IsDistinct};
 ghost use Rattle.tera_values_data.specs.Access.{find, insert_pair, key_eq};
 
-use crate::key::{Key, Wanted, compare_key};
+use crate::key::{Key, Wanted};
+use crate::key_order::KeyOrder;
 use crate::value::{Entry, Table, Value};
 use std::alloc::Global;
-use std::cmp::Ordering;
 use std::mem::replace;
 use tera_errors::TeraResult;
-
-/// Where the key stands in the order, or where it would stand.
-fn search(all: &[Entry], by_key: &[usize], wanted: &Wanted<'_>) -> Result<usize, usize>
-    requires { IsIndex by_key.now (entry_views all.now) }
-    ensures found { IfOk result (IsAt by_key.now (entry_views all.now) (wanted_view wanted.now)) }
-    ensures absent { IfErr result (IsGapFor by_key.now (entry_views all.now)
-        (wanted_view wanted.now)) }
-{
-    let mut low = 0;
-    let mut high = by_key.len();
-    while low < high {
-        let middle = low + (high - low) / 2;
-        match compare_key(&all[by_key[middle]].key, wanted) {
-            Ordering::Less => low = middle + 1,
-            Ordering::Equal => return Ok(middle),
-            Ordering::Greater => high = middle,
-        }
-    }
-    Err(low)
-}
 
 /// Whether the key is this text.
 #[inline]
@@ -62,7 +42,7 @@ impl Table {
     {
         Table {
             all: Vec::new(alloc),
-            by_key: Vec::new(alloc),
+            by_key: KeyOrder::new(alloc),
         }
     }
 
@@ -86,8 +66,8 @@ impl Table {
     pub(crate) fn value_at(&self, wanted: &Wanted<'_>) -> Option<&Value>
         ensures { option_copied result ≡ find (wanted_view wanted.now) self.now }
     {
-        match search(self.all.as_slice(), self.by_key.as_slice(), wanted) {
-            Ok(at) => Some(&self.all[self.by_key[at]].value),
+        match self.by_key.find(self.all.as_slice(), wanted) {
+            Ok(position) => Some(&self.all[position].value),
             Err(_) => None,
         }
     }
@@ -108,18 +88,17 @@ impl Table {
         ensures there { IsSome (find (key_view key) self.old) → IsOk result }
         ensures lacks { IfErr result Lacks }
     {
-        match search(self.all.as_slice(), self.by_key.as_slice(), &key.wanted()) {
-            Ok(at) => {
-                let position = self.by_key[at];
+        match self.by_key.find(self.all.as_slice(), &key.wanted()) {
+            Ok(position) => {
                 let old = replace(&mut self.all[position].value, value);
                 drop(old);
                 drop(key);
                 Ok(())
             }
-            Err(at) => {
+            Err(gap) => {
                 let position = self.all.len();
                 self.all.push(Entry { key, value })?;
-                match self.by_key.insert(at, position) {
+                match self.by_key.fill(gap, position) {
                     Ok(()) => Ok(()),
                     Err(error) => {
                         self.all.pop();

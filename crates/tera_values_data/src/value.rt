@@ -6,6 +6,7 @@ ghost use Rattle.tera_values_data.specs.Access.{marked};
 ghost use Rattle.tera_values_data.specs.View.{node_view};
 
 use crate::key::Key;
+use crate::key_order::KeyOrder;
 use std::alloc::Global;
 use std::marker::Model;
 use std::rc::{Rc, RcStr};
@@ -67,12 +68,12 @@ pub(crate) struct Entry {
     pub(crate) value: Value,
 }
 
-/// Entries in order of insertion, and beside them their positions, sorted by key.
+/// Entries in order of insertion, and beside them the order of their keys.
 #[cycle(value)]
 #[derive(Drop)]
 pub(crate) struct Table {
     pub(crate) all: Vec<Entry>,
-    pub(crate) by_key: Vec<usize>,
+    pub(crate) by_key: KeyOrder,
 }
 
 /// Values at keys, in order of insertion. Its table is in a box, taken by the first entry, so that a map, and so every
@@ -116,9 +117,9 @@ impl Model for Table {
 
     ghost view = { λ t. entry_views t.all.items };
 
-    ghost use Rattle.tera_values_data.specs.Index.{IsIndex};
+    ghost use Rattle.tera_values_data.specs.KeyOrder.{IsKept};
 
-    ghost invariant = { λ t. IsIndex t.by_key.items (entry_views t.all.items) };
+    ghost invariant = { λ t. IsKept t.by_key (entry_views t.all.items) };
 
     ghost size = { λ es. entries_size (entries es) };
 

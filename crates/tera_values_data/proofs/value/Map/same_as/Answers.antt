@@ -1,6 +1,7 @@
 use Rattle.std.proofs.Common.{◌≡◌, ap, sym, ◌∙◌, is_eq, subst}
 use Rattle.tera_values_data.specs.Val.{map, entries}
 use Rattle.tera_values_data.specs.View.{entry_views}
+use Rattle.tera_values_data.specs.KeyOrder.{left}
 use Rattle.tera_values_data.specs.Index.{IsIndex}
 use Rattle.tera_values_data.specs.Order.{same}
 use Rattle.tera_values_data.specs.Finite.{IsSameMap}
@@ -11,9 +12,9 @@ use Rattle.tera_values_data.proofs.value.Map.same_as.Goals as goal
 pub returns : goal.returns
 returns c =
     let a = c.entries.result.now in
-    let ka = c.by_key.result.now in
+    let ka = left c.by_key.result in
     let b = c.entries-2.result.now in
-    let kb = c.by_key-2.result.now in
+    let kb = left c.by_key-2.result in
     let es = entry_views a in
     let fs = entry_views b in
     let ia : IsIndex ka es = subst (IsIndex ka) (sym c.entries.ensures) c.by_key.ensures in

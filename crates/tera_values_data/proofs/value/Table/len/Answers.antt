@@ -1,6 +1,7 @@
 use Rattle.std.proofs.Common.{arith, subst}
 use Rattle.std.proofs.lemmas.Grind.{common_steps}
 use Rattle.tera_values_data.specs.View.{entry_views}
+use Rattle.tera_values_data.specs.KeyOrder.{flat}
 use Rattle.tera_values_data.specs.Index.{IsDistinct, key_at}
 use Rattle.tera_values_data.proofs.Keys.{key_tied}
 use Rattle.tera_values_data.proofs.Positions.{distinct}
@@ -13,4 +14,4 @@ returns-clause-count c = rw (← c.self.view_is) (grind (arith, common_steps, vi
 pub returns-clause-distinct : goal.returns-clause-distinct
 returns-clause-distinct c = subst IsDistinct c.self.view_is (λ i j hi hj e.
     let es = entry_views c.self.inside.all.items in
-    distinct c.self.inside.by_key.items es c.self.invariant i j hi hj (rw e (key_tied (key_at es j))))
+    distinct (flat c.self.inside.by_key) es c.self.invariant.index i j hi hj (rw e (key_tied (key_at es j))))

@@ -3,9 +3,9 @@ use Rattle.tera_values_data.specs.View.{wanted_view, entry_views}
 use Rattle.tera_values_data.specs.Keys.{key_cmp}
 use Rattle.tera_values_data.specs.Index.{nth_key}
 use Rattle.tera_values_data.proofs.Keys.{key_exact}
-use Rattle.tera_values_data.proofs.Positions.{less_before, greater_from}
+use Rattle.tera_values_data.proofs.Ordered.{less_in_row, greater_in_row}
 use Rattle.tera_values_data.proofs.Entries.{nth_key_of}
-use Rattle.tera_values_data.proofs.table.search.Goals as goal
+use Rattle.tera_values_data.proofs.key_order.search.Goals as goal
 
 pub loop-low-preserved-in-Less : goal.loop-low-preserved-in-Less
 loop-low-preserved-in-Less c =
@@ -14,7 +14,7 @@ loop-low-preserved-in-Less c =
     record {
       ordered = omega arith;
       in_range = omega arith;
-      smaller = less_before c.args.by_key.now (entry_views c.args.all.now) c.requires (wanted_view c.args.wanted.now) m (omega arith) tested;
+      smaller = less_in_row c.args.by_key.now (entry_views c.args.all.now) c.requires (wanted_view c.args.wanted.now) m (omega arith) tested;
       greater = c.loop-low.invariant.greater;
     }
 
@@ -32,5 +32,5 @@ loop-low-preserved c =
       ordered = omega arith;
       in_range = omega arith;
       smaller = c.loop-low.invariant.smaller;
-      greater = greater_from c.args.by_key.now (entry_views c.args.all.now) c.requires (wanted_view c.args.wanted.now) m tested;
+      greater = greater_in_row c.args.by_key.now (entry_views c.args.all.now) c.requires (wanted_view c.args.wanted.now) m tested;
     }

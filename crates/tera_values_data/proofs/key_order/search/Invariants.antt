@@ -2,7 +2,7 @@ use Rattle.std.proofs.Common.{◌-◌, ◌≡◌, ℕ, length, ◌<◌, ◌≤�
 use Rattle.tera_values_data.specs.View.{wanted_view, entry_views}
 use Rattle.tera_values_data.specs.Keys.{key_cmp}
 use Rattle.tera_values_data.specs.Index.{nth_key}
-use Rattle.tera_values_data.proofs.table.search.Given as goal
+use Rattle.tera_values_data.proofs.key_order.search.Given as goal
 
 abbrev pub invariant-loop-low : goal.invariant-loop-low
 invariant-loop-low l = record {

@@ -28,7 +28,7 @@ up_to_by f l g j false true true a b c d e = absurd (true≢false e)
 up_to_by f l g j false true false a b c d e = inr (c refl, d refl)
 up_to_by f l g j false false r a b c d e = let le = a refl in let ne = b refl in inl (omega (arith, le, ne))
 
-up_to : (f l g j : ℕ) → is_beyond f l g j ≡ false → IsUpTo f l g j
+pub up_to : (f l g j : ℕ) → is_beyond f l g j ≡ false → IsUpTo f l g j
 up_to f l g j = up_to_by f l g j (nat_lt g f) (nat_eq f g) (nat_lt j l) (ltb-false g f) (eqb-false f g) (eqb-true f g) (ltb-false j l)
 
 -- what comes before the end stands in no layer after it
@@ -128,7 +128,7 @@ ends-with : (bs : List Binding) (f l g j : ℕ) (n : Name) (v : Val) → IsUpTo 
 ends-with [] f l g j n v u h = (u, tt)
 ends-with (b ∷ bs) f l g j n v u h = ends_bound (is_for f l n b) b v bs (with_binding bs f l n v) g j h (ends-with bs f l g j n v u h.1)
 
-same_up_to : (f l : ℕ) → IsUpTo f l f l
+pub same_up_to : (f l : ℕ) → IsUpTo f l f l
 same_up_to f l = let le : l ≤ l = omega arith in inr (refl, le)
 
 raised_by : (bs : List Binding) (f l : ℕ) (end : Layer) (t : Bool) → is_beyond f l end.frame end.layer ≡ t → EndsAt bs end → EndsAt bs (cond t (record { frame = f; layer = l }) end)

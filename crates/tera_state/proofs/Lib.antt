@@ -1,4 +1,5 @@
 pub mod Puts
+pub mod Parts
 pub mod Once
 pub mod Walked
 pub mod Layers
@@ -9,4 +10,6 @@ pub mod Beyond
 pub mod Started
 pub mod Stacks
 pub mod Ends
+pub mod Rising
+pub mod BindingMap
 pub mod FoundNames

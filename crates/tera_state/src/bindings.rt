@@ -1,9 +1,11 @@
-// All names that a rendering has set, in one list.
-ghost use Rattle.std.specs.Prelude.{◌≡◌, ◌↔◌, [], IsTrue, OnOk, OnErr, IfErr, option_copied};
+// All names that a rendering has set, as one list.
+ghost use Rattle.std.specs.Prelude.{◌≡◌, ◌↔◌, [], ◌++◌, None, IsTrue, OnOk, OnErr, IfErr, option_copied};
 ghost use Rattle.tera_errors.specs.Prelude.{Lacks};
 ghost use Rattle.tera_values.specs.Prelude.{put_all};
 ghost use Rattle.tera_state.specs.Bound.{value_in, with_binding, without, without_frame, position_from, layer_of, is_beyond, end_with, end_without};
 
+use crate::binding_map::BindingMap;
+use crate::part::Part;
 use std::alloc::{AllocError, Global};
 use std::marker::Model;
 use tera_values::{Context, Name, Sought, TeraResult, Value};
@@ -17,13 +19,17 @@ pub struct Binding {
     pub value: Value,
 }
 
-/// The bindings of all frames. A name stands at most once in a layer of a frame. None stands beyond the end that is
-/// kept, so that an empty turn is known to bind nothing without a search.
+/// The bindings of all frames: a few in a list, and those behind them in a map. A name stands at most once in a layer of
+/// a frame. None stands beyond the end that is kept, so that an empty turn is known to bind nothing without a search.
 #[derive(Drop)]
 pub struct Bindings {
-    items: Vec<Binding>,
+    few: Vec<Binding>,
+    others: BindingMap,
     end: Layer,
 }
+
+// How many bindings the list takes: so many are searched as fast as a map is.
+const FEW: usize = 8;
 
 /// A layer of a frame.
 #[derive(Clone, Copy)]
@@ -33,7 +39,7 @@ pub(crate) struct Layer {
 }
 
 impl Model for Bindings {
-    ghost use Rattle.std.specs.Prelude.{List};
+    ghost use Rattle.std.specs.Prelude.{List, ◌++◌};
     ghost use Rattle.std.specs.Coded.{codes};
     ghost use Rattle.tera_values.specs.Coding.{val_coding};
     ghost use Rattle.tera_state.specs.Bound.{IsOnce, EndsBy};
@@ -43,9 +49,9 @@ impl Model for Bindings {
 
     ghost coded = { Prim.hlevel (codes, val_coding) };
 
-    ghost view = { λ b. b.items.items };
+    ghost view = { λ b. b.few.items ++ b.others };
 
-    ghost invariant = { λ b. IsOnce b.items.items × EndsBy b.items.items b.end.frame b.end.layer };
+    ghost invariant = { λ b. IsOnce (b.few.items ++ b.others) × EndsBy (b.few.items ++ b.others) b.end.frame b.end.layer };
 }
 
 impl Bindings {
@@ -54,7 +60,8 @@ impl Bindings {
         ensures { result ≡ [] }
     {
         Bindings {
-            items: Vec::new(alloc),
+            few: Vec::new(alloc),
+            others: BindingMap::new(alloc),
             end: Layer { frame: 0, layer: 0 },
         }
     }
@@ -64,7 +71,9 @@ impl Bindings {
     pub fn is_empty(&self) -> bool
         ensures { IsTrue result ↔ (self.now ≡ []) }
     {
-        self.items.is_empty()
+        let few = self.few.is_empty();
+        let others = self.others.is_empty();
+        few && others
     }
 
     /// The value of the name in the layer.
@@ -75,7 +84,7 @@ impl Bindings {
         if is_beyond(frame, layer, self.end) {
             return None;
         }
-        find(self.items.as_slice(), frame, layer, name)
+        self.found(frame, layer, name)
     }
 
     /// The same for a name that is kept.
@@ -86,15 +95,26 @@ impl Bindings {
         if is_beyond(frame, layer, self.end) {
             return None;
         }
-        self.found(frame, layer, name)
+        self.found_kept(frame, layer, name)
     }
 
     // The same in a layer that may bind something. What it looks for takes no room where the layer binds nothing.
     #[inline(never)]
-    fn found(&self, frame: usize, layer: usize, name: &Name) -> Option<&Value>
+    fn found_kept(&self, frame: usize, layer: usize, name: &Name) -> Option<&Value>
         ensures { option_copied result ≡ value_in self.now frame layer name.now }
     {
-        find(self.items.as_slice(), frame, layer, &name.sought())
+        self.found(frame, layer, &name.sought())
+    }
+
+    // The same for a name that is looked for.
+    #[inline(never)]
+    fn found(&self, frame: usize, layer: usize, name: &Sought<'_>) -> Option<&Value>
+        ensures { option_copied result ≡ value_in self.now frame layer name.now }
+    {
+        match find(self.few.as_slice(), frame, layer, name) {
+            Some(value) => Some(value),
+            None => self.others.get(frame, layer, name),
+        }
     }
 
     /// Binds the name in the layer, in place of an older binding of it, which takes no memory.
@@ -109,14 +129,18 @@ impl Bindings {
         ensures err { OnErr result (self.new ≡ self.old) }
     {
         self.end = end_with(frame, layer, self.end);
-        match position(self.items.as_slice(), frame, layer, &name.sought()) {
-            Some(at) => self.items[at].value = value,
-            None => self.items.push(Binding {
-                frame,
-                layer,
-                name,
-                value,
-            })?,
+        match position(self.few.as_slice(), frame, layer, &name.sought()) {
+            Some(at) => self.few[at].value = value,
+            None => put_behind(
+                &mut self.few,
+                &mut self.others,
+                Binding {
+                    frame,
+                    layer,
+                    name,
+                    value,
+                },
+            )?,
         }
         Ok(())
     }
@@ -126,7 +150,8 @@ impl Bindings {
         ensures ok { OnOk result (names.new ≡ put_all (layer_of self.now frame layer) names.old) }
         ensures lacks { IfErr result Lacks }
     {
-        put_layer(self.items.as_slice(), frame, layer, names)
+        put_layer(self.few.as_slice(), frame, layer, names)?;
+        self.others.put_layer(frame, layer, names)
     }
 
     /// Takes out what a layer binds.
@@ -145,8 +170,9 @@ impl Bindings {
     fn clear_bound(&mut self, frame: usize, layer: usize)
         ensures { self.new ≡ without self.old frame layer }
     {
-        self.items
+        self.few
             .retain(|b: &Binding| b.frame != frame || b.layer != layer);
+        self.others.clear(Part::Layer(Layer { frame, layer }));
         self.end = end_without(frame, layer, self.end);
     }
 
@@ -157,13 +183,34 @@ impl Bindings {
         if frame > self.end.frame {
             return;
         }
-        self.items.retain(|b: &Binding| b.frame != frame);
+        self.few.retain(|b: &Binding| b.frame != frame);
+        self.others.clear(Part::Frame(frame));
     }
+}
+
+// Puts a binding that is none of the few behind all.
+#[inline(always)]
+fn put_behind(
+    few: &mut Vec<Binding>,
+    others: &mut BindingMap,
+    binding: Binding,
+) -> Result<(), AllocError>
+    ensures ok { OnOk result (position_from 0 few.old.items binding.frame binding.layer binding.name ≡ None
+        → few.new.items ++ others.new ≡ with_binding (few.old.items ++ others.old)
+        binding.frame binding.layer binding.name binding.value) }
+    ensures err { OnErr result (few.new.items ++ others.new ≡ few.old.items ++ others.old) }
+{
+    if few.len() < FEW && others.is_empty() {
+        few.push(binding)?;
+    } else {
+        others.put(binding)?;
+    }
+    Ok(())
 }
 
 // Whether the layer comes after the end.
 #[inline(always)]
-fn is_beyond(frame: usize, layer: usize, end: Layer) -> bool
+pub(crate) fn is_beyond(frame: usize, layer: usize, end: Layer) -> bool
     ensures { result ≡ is_beyond frame layer end.frame end.layer }
 {
     frame > end.frame || (frame == end.frame && layer > end.layer)
@@ -194,7 +241,7 @@ fn end_without(frame: usize, layer: usize, end: Layer) -> Layer
     }
 }
 
-#[inline(never)]
+#[inline(always)]
 fn find<'a>(
     items: &'a [Binding],
     frame: usize,

@@ -1,6 +1,7 @@
 //! The variables of a rendering, and what objects of the caller are lent of them.
 #![tactic(auto)]
 
+mod binding_map;
 pub mod bindings;
 pub mod contexts;
 pub mod found;
@@ -8,10 +9,12 @@ pub mod frame;
 pub mod implicits;
 pub mod items;
 pub mod laws;
+mod layer_name;
 pub mod lent_names;
 pub mod loops;
 pub mod object;
 pub mod open_loops;
+mod part;
 pub mod rendered;
 pub mod scopes;
 pub mod stack;

@@ -100,7 +100,7 @@ module _ (s t : Shelf) (u : IsUtf8 s.pool) (v : IsUtf8 t.pool) (g : Grows s t) w
       let both = beside s.constants t.constants val.none g.1.1.0 (λ x y. instruction.LoadConst x y) constant span (w.0, w.1) in
       ((both.0.0, both.0.1, ap small_integer (at_longer s.constants t.constants constant val.none g.1.1.0 w.0).1 ∙ w.2), both.1)
   stays (packed.WriteName name span) w = named (λ x y. instruction.WriteName x y) name span w
-  stays (packed.LoadName name span) w = named (λ x y. instruction.LoadName x y) name span w
+  stays (packed.LoadName reads_on name span) w = named (λ x y. instruction.LoadName x y) name span w
   stays (packed.LoadContext span) w = spanned (λ y. instruction.LoadContext y) span w
   stays (packed.LoadAttribute name optional span) w = named (λ x y. instruction.LoadAttribute x optional y) name span w
   stays (packed.LoadItem optional span) w = spanned (λ y. instruction.LoadItem optional y) span w
@@ -113,7 +113,7 @@ module _ (s t : Shelf) (u : IsUtf8 s.pool) (v : IsUtf8 t.pool) (g : Grows s t) w
       ((w.0, to_longer s.spreads t.spreads end g.1.1.1.0 w.1, whole.0), ap (λ x. instruction.MakeArray x (span_at t span)) (slice_longer s.spreads t.spreads start end g.1.1.1.0 w.0 w.1) ∙ whole.1)
   stays (packed.MakeMap keys span) w = beside s.keys t.keys [] g.1.1.1.1.0 (λ x y. instruction.MakeMap x y) keys span w
   stays (packed.Store name is_global) w = let at = at_longer s.names t.names name [] g.1.0 w in (at.0, ap (λ x. instruction.Store x is_global) at.1)
-  stays (packed.StartLoop counts names size) w =
+  stays (packed.StartLoop counts prints names size) w =
       let at = at_longer s.loops t.loops names (record { key = None; name = [] }) g.1.1.1.1.1.1.0 w in
       (at.0, ap (λ (n : LoopNames). instruction.StartLoop n.key n.name counts size) at.1)
   stays packed.NextTurn w = (tt, refl)

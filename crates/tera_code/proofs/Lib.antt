@@ -3,5 +3,6 @@ pub mod Filled
 pub mod Found
 pub mod Growth
 pub mod Lengthened
+pub mod Noted
 pub mod Parts
 pub mod Written

@@ -1,5 +1,5 @@
 -- What an instruction tells where it is asked for its parts; none where it is another one.
-use Rattle.std.specs.Prelude.{◌≡◌, ℕ, ℤ, ◌+◌, Bool, true, false, ◌||◌, cond, IsTrue, List, Option, Some, None, is_some, option_map, option_and_then, slice_get, unwrap_or}
+use Rattle.std.specs.Prelude.{◌≡◌, ℕ, ℤ, ◌+◌, Bool, true, false, ◌&&◌, ◌||◌, cond, IsTrue, List, Option, Some, None, is_some, option_map, option_and_then, slice_get, unwrap_or}
 use Rattle.tera_errors.specs.Site as site
 use Rattle.tera_errors.specs.declared.span.Span.{Span}
 use Rattle.tera_syntax_tree.specs.declared.expression.BinaryOperator.{BinaryOperator}
@@ -130,6 +130,11 @@ comparison_at code at =
 abbrev pub uses_top_at : List Instruction → ℕ → Bool
 uses_top_at code at =
     unwrap_or (option_map uses_top (slice_get code at)) false || is_some (comparison_at code at)
+
+-- whether a name is loaded at a position and used up behind it
+abbrev pub reads_on_at : List Instruction → ℕ → Bool
+reads_on_at code at =
+    is_some (option_and_then loaded_name (slice_get code at)) && uses_top_at code (at + 1)
 
 abbrev pub is_next_turn : Instruction → Bool
 is_next_turn instruction.NextTurn = true

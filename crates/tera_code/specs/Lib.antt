@@ -6,6 +6,7 @@ pub mod Filling
 pub mod Blocks
 pub mod Asked
 pub mod Printing
+pub mod Settled
 pub mod Called
 pub mod Targets
 pub mod Calls

@@ -76,7 +76,8 @@ unpacked s (packed.LoadInt span number) = instruction.LoadConst (val.int number)
 unpacked s (packed.LoadConst constant span) =
     instruction.LoadConst (get_or s.constants constant val.none) (span_at s span)
 unpacked s (packed.WriteName name span) = instruction.WriteName (name_at s name) (span_at s span)
-unpacked s (packed.LoadName name span) = instruction.LoadName (name_at s name) (span_at s span)
+unpacked s (packed.LoadName reads_on name span) =
+    instruction.LoadName (name_at s name) (span_at s span)
 unpacked s (packed.LoadContext span) = instruction.LoadContext (span_at s span)
 unpacked s (packed.LoadAttribute name optional span) =
     instruction.LoadAttribute (name_at s name) optional (span_at s span)
@@ -89,7 +90,7 @@ unpacked s (packed.MakeArray start end span) =
     instruction.MakeArray (take (end - start) (drop start s.spreads)) (span_at s span)
 unpacked s (packed.MakeMap keys span) = instruction.MakeMap (get_or s.keys keys []) (span_at s span)
 unpacked s (packed.Store name is_global) = instruction.Store (name_at s name) is_global
-unpacked s (packed.StartLoop counts names size) =
+unpacked s (packed.StartLoop counts prints names size) =
     instruction.StartLoop (loop_at s names).key (loop_at s names).name counts size
 unpacked s packed.NextTurn = instruction.NextTurn
 unpacked s (packed.EndLoop skip) = instruction.EndLoop skip
@@ -130,7 +131,7 @@ Within s (packed.LoadConst constant span) =
     (constant < length s.constants) × (span < length s.spans)
     × (small_integer (get_or s.constants constant val.none) ≡ None)
 Within s (packed.WriteName name span) = (name < length s.names) × (span < length s.spans)
-Within s (packed.LoadName name span) = (name < length s.names) × (span < length s.spans)
+Within s (packed.LoadName reads_on name span) = (name < length s.names) × (span < length s.spans)
 Within s (packed.LoadContext span) = span < length s.spans
 Within s (packed.LoadAttribute name optional span) =
     (name < length s.names) × (span < length s.spans)
@@ -143,7 +144,7 @@ Within s (packed.MakeArray start end span) =
     (start ≤ end) × (end ≤ length s.spreads) × (span < length s.spans)
 Within s (packed.MakeMap keys span) = (keys < length s.keys) × (span < length s.spans)
 Within s (packed.Store name is_global) = name < length s.names
-Within s (packed.StartLoop counts names size) = names < length s.loops
+Within s (packed.StartLoop counts prints names size) = names < length s.loops
 Within s packed.NextTurn = Unit {0}
 Within s (packed.EndLoop skip) = Unit {0}
 Within s packed.Keep = Unit {0}

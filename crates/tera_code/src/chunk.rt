@@ -1,30 +1,27 @@
 // The instructions of one body.
-ghost use Rattle.std.specs.Prelude.{◌≡◌, ◌+◌, ◌<◌, ◌^◌, [], ◌∷◌, cond, false, length, slice_get, OnOk, IfSome, IsTrue, MatchOption, Some, None, option_map, option_and_then, unwrap_or};
-ghost use Rattle.tera_code.specs.Asked.{loaded_attribute, is_write_top, jump_length_if_false, Compares, comparison_at, uses_top_at};
+ghost use Rattle.std.specs.Prelude.{◌≡◌, ◌+◌, ◌<◌, ◌^◌, cond, false, length, map, slice_get, IfSome, IsTrue, MatchOption, Some, None, option_map, option_and_then, unwrap_or};
+ghost use Rattle.std.specs.List.{All};
+ghost use Rattle.tera_code.specs.Asked.{loaded_attribute, is_write_top, jump_length_if_false, Compares, comparison_at, reads_on_at};
 ghost use Rattle.tera_code.specs.Called.{callee_of, called_by};
-ghost use Rattle.tera_code.specs.Code.{lengthened, spreads_of};
 ghost use Rattle.tera_code.specs.declared.instruction.Instruction.TheVariants as instruction;
-ghost use Rattle.tera_code.specs.Filling.{filled};
+ghost use Rattle.tera_code.specs.Packed.{Within, shelf_of, unpacked};
+ghost use Rattle.tera_code.specs.Printing.{printing_loop_at};
 ghost use Rattle.tera_code.specs.Targets.{target_in, target_of};
-ghost use Rattle.tera_syntax_tree.specs.Prelude.{items_of};
 
 use crate::callee::Callee;
 use crate::comparison::Comparison;
-use crate::instruction::Instruction;
+use crate::lent_code::LentCode;
 use crate::lent_instruction::LentInstruction;
 use crate::lent_parts::Text;
 use crate::packed::{Packed, Tables};
-use crate::room::Room;
-use crate::seen::Seen;
+use crate::settling::settle;
 use crate::steps::Steps;
 use crate::target::Target;
-use std::alloc::{AllocError, Global};
 use std::marker::Model;
-use tera_operators::is_comparison;
-use tera_syntax_tree::Item;
-use tera_values::{Name, Sought, Span};
+use tera_values::{Name, Span};
 
-/// The instructions of a body, and the name of the template in whose text it stands.
+/// The instructions of a body, and the name of the template in whose text it stands. What is to be known of those behind an instruction
+/// is noted in it.
 #[derive(Drop)]
 pub struct Chunk {
     file: Name,
@@ -34,9 +31,9 @@ pub struct Chunk {
 
 impl Model for Chunk {
     ghost use Rattle.std.specs.Prelude.{map};
-    ghost use Rattle.std.specs.List.{All};
     ghost use Rattle.tera_code.specs.Listing.{Listing};
-    ghost use Rattle.tera_code.specs.Packed.{Within, shelf_of, unpacked};
+    ghost use Rattle.tera_code.specs.Packed.{shelf_of, unpacked};
+    ghost use Rattle.tera_code.specs.Settled.{Settled};
     ghost use Rattle.std.specs.Coded.{codes};
     ghost use Rattle.tera_values.specs.Coding.{val_coding};
 
@@ -50,20 +47,23 @@ impl Model for Chunk {
           c.code.items;
     } };
 
-    ghost invariant = { λ c. All (Within (shelf_of c.tables)) c.code.items };
+    ghost invariant = { λ c. Settled (shelf_of c.tables) c.code.items };
 }
 
 impl Chunk {
     ghost use Rattle.tera_code.specs.Listing.{Listing};
 
-    pub(crate) fn new(alloc: Global, file: Name) -> Chunk
-        ensures { result ≡ record { file = file; code = [] } }
+    // The body of these instructions, in which nothing has to be noted yet.
+    pub(crate) fn new(file: Name, tables: Tables, code: Vec<Packed>) -> Chunk
+        requires { All (Within (shelf_of tables)) code.items }
+        ensures { result ≡ record {
+          file = file;
+          code = map (unpacked (shelf_of tables)) code.items;
+        } }
     {
-        Chunk {
-            file,
-            tables: Tables::new(alloc),
-            code: Vec::new(alloc),
-        }
+        let mut code = code;
+        settle(&tables, code.as_mut_slice());
+        Chunk { file, tables, code }
     }
 
     /// The name of the template in whose text the body stands.
@@ -148,41 +148,33 @@ impl Chunk {
         ensures count { MatchOption result (steps.new ≡ steps.old)
             (λ _. steps.new ≡ steps.old + 2) }
     {
-        let comparison = self.comparison(at)?;
+        let comparison = self.instructions().comparison(at)?;
         steps.tick();
         steps.tick();
         Some(comparison)
     }
 
-    /// Whether the topmost operand is used up at this position: the instruction there takes an attribute of it, puts it out or tests
-    /// it, or it is compared with a constant. No instruction is handed out, so that none is counted.
+    /// Whether the instruction at this position loads a name that is used up behind it: an attribute is taken of it, it is put out or
+    /// tested, or it is compared with a constant. That is noted in the instruction itself, and no other one is looked at.
     #[inline(always)]
-    pub fn uses_top_at(&self, at: usize) -> bool
-        ensures { result ≡ uses_top_at self.now.code at }
+    pub fn reads_on_at(&self, at: usize) -> bool
+        ensures { result ≡ reads_on_at self.now.code at }
     {
-        match self.lent(at) {
-            Some(instruction) => instruction.uses_top() || self.comparison(at).is_some(),
+        match self.code.get(at) {
+            Some(packed) => packed.reads_on(),
             None => false,
         }
     }
 
-    // The comparison that the two instructions at this position make, which are not counted.
+    /// The size of the body of the loop that the instruction at this position opens, where the body puts out texts and items alone:
+    /// such a loop leaves nothing behind but text. That is noted in the instruction itself, as above.
     #[inline(always)]
-    fn comparison(&self, at: usize) -> Option<Comparison<'_>>
-        ensures means { IfSome result (Compares self.now.code at) }
-        ensures exact { result ≡ comparison_at self.now.code at }
+    pub fn printing_loop_at(&self, at: usize) -> Option<usize>
+        ensures exact { result ≡ printing_loop_at self.now.code at }
+        ensures ends { IfSome result (λ size.
+            slice_get self.now.code (at + 1 + size) ≡ Some instruction.NextTurn) }
     {
-        let (constant, constant_span) = self.lent(at)?.as_constant()?;
-        let (operator, span) = self.lent(at + 1)?.as_binary()?;
-        if !is_comparison(operator) {
-            return None;
-        }
-        Some(Comparison {
-            constant,
-            constant_span,
-            operator,
-            span,
-        })
+        self.code.get(at)?.printing_size()
     }
 
     /// How many instructions there are.
@@ -194,6 +186,7 @@ impl Chunk {
 
     /// What the instruction at this position calls; none where it calls nothing, or where there is none. The instruction is not
     /// handed out, so that it isn't counted.
+    #[inline(always)]
     pub fn callee_at(&self, position: usize) -> Option<Callee<'_>>
         ensures { option_map callee_of result
             ≡ option_and_then called_by (slice_get self.now.code position) }
@@ -217,89 +210,15 @@ impl Chunk {
             (λ i. slice_get self.now.code at ≡ Some i) }
         ensures small { IfSome result (λ _. length self.now.code < 2 ^ 64) }
     {
-        match self.code.get(at) {
-            None => None,
-            Some(packed) => Some(LentInstruction::new(packed, &self.tables)),
-        }
+        self.instructions().lent(at)
     }
 
-    pub(crate) fn make_room(&mut self, room: Room) -> Result<(), AllocError>
-        ensures same { self.new ≡ self.old }
-    {
-        self.code.reserve(room.instructions)?;
-        self.tables.make_room(room.spans, room.bytes)
-    }
-
-    // Inlined, as is what it stands on: each caller names one form, and no other one is looked for.
+    // All of them, none of which is counted.
     #[inline(always)]
-    pub(crate) fn emit(
-        &mut self,
-        alloc: Global,
-        seen: &mut Seen,
-        instruction: Instruction<'_>,
-    ) -> Result<(), AllocError>
-        ensures { OnOk result (self.new ≡ lengthened self.old (instruction.entry ∷ [])) }
+    fn instructions(&self) -> LentCode<'_>
+        ensures { result ≡ self.now.code }
     {
-        let packed = self.tables.pack(alloc, seen, instruction)?;
-        self.code.push(packed)?;
-        Ok(())
-    }
-
-    // The same for a text that is put out, which is most of a template: no other form is looked for.
-    #[tactic(auto, using(crate::proofs::Growth::all_stay, crate::proofs::Growth::all_grow))]
-    #[inline(always)]
-    pub(crate) fn emit_text(&mut self, text: &str) -> Result<(), AllocError>
-        ensures { OnOk result
-            (self.new ≡ lengthened self.old (instruction.WriteText text.now ∷ [])) }
-    {
-        let packed = self.tables.text(text)?;
-        self.code.push(packed)?;
-        Ok(())
-    }
-
-    // The same for a name whose value is put out.
-    #[tactic(auto, using(crate::proofs::Growth::all_stay, crate::proofs::Growth::all_grow))]
-    #[inline(always)]
-    pub(crate) fn emit_name(
-        &mut self,
-        alloc: Global,
-        seen: &mut Seen,
-        name: Sought<'_>,
-        span: Span,
-    ) -> Result<(), AllocError>
-        ensures { OnOk result
-            (self.new ≡ lengthened self.old (instruction.WriteName name.entry span ∷ [])) }
-    {
-        let packed = self.tables.written_name(alloc, seen, &name, span)?;
-        self.code.push(packed)?;
-        Ok(())
-    }
-
-    // The same for an array of these items, whose flags are noted where they stay.
-    #[tactic(auto, using(crate::proofs::Growth::all_stay, crate::proofs::Growth::all_grow))]
-    pub(crate) fn emit_array(&mut self, items: &[Item], span: Span) -> Result<(), AllocError>
-        ensures { OnOk result (self.new ≡ lengthened self.old
-            (instruction.MakeArray (spreads_of (items_of items.now)) span ∷ [])) }
-    {
-        let packed = self.tables.array_of(items, span)?;
-        self.code.push(packed)?;
-        Ok(())
-    }
-
-    #[inline(always)]
-    pub(crate) fn fill(
-        &mut self,
-        alloc: Global,
-        seen: &mut Seen,
-        position: usize,
-        instruction: Instruction<'_>,
-    ) -> Result<(), AllocError>
-        requires { position < length self.old.code }
-        ensures { OnOk result (self.new ≡ filled position instruction.entry self.old) }
-    {
-        let packed = self.tables.pack(alloc, seen, instruction)?;
-        self.code[position] = packed;
-        Ok(())
+        LentCode::new(&self.tables, self.code.as_slice())
     }
 }
 

@@ -8,6 +8,7 @@ ghost use Rattle.tera_code.specs.Filling.{filled, behind};
 
 use crate::chunk::Chunk;
 use crate::constant::Constant;
+use crate::draft::Draft;
 use crate::instruction::Instruction;
 use crate::room::Room;
 use crate::seen::Seen;
@@ -21,7 +22,7 @@ use tera_values::{Name, Sought, Span, Value};
 #[derive(Drop)]
 pub struct Compiler {
     alloc: Global,
-    chunk: Chunk,
+    draft: Draft,
     seen: Seen,
 }
 
@@ -34,7 +35,7 @@ impl Model for Compiler {
 
     ghost coded = { Prim.hlevel (codes, val_coding) };
 
-    ghost view = { λ c. c.chunk };
+    ghost view = { λ c. c.draft };
 }
 
 impl Compiler {
@@ -44,20 +45,27 @@ impl Compiler {
     pub fn new(alloc: Global, file: &str) -> Result<Compiler, AllocError>
         ensures { IfOk result (λ c. c ≡ record { file = file.now; code = [] }) }
     {
-        let file = lacking(Name::new(alloc, file))?;
-        Ok(Compiler {
+        Ok(Compiler::of(alloc, lacking(Name::new(alloc, file))?))
+    }
+
+    // The same where the name is there. A compiler is large, so that this makes it where it stays.
+    #[inline(always)]
+    pub(crate) fn of(alloc: Global, file: Name) -> Compiler
+        ensures { result ≡ record { file = file; code = [] } }
+    {
+        Compiler {
             alloc,
-            chunk: Chunk::new(alloc, file),
+            draft: Draft::new(alloc, file),
             seen: Seen::new(),
-        })
+        }
     }
 
     /// The body, with all that is written.
     pub fn into_chunk(self) -> Chunk
         ensures { result ≡ self }
     {
-        let Compiler { chunk, .. } = self;
-        chunk
+        let Compiler { draft, .. } = self;
+        draft.into_chunk()
     }
 
     pub(crate) fn alloc(&self) -> Global {
@@ -75,14 +83,14 @@ impl Compiler {
     pub(crate) fn make_room(&mut self, room: Room) -> Result<(), AllocError>
         ensures same { self.new ≡ self.old }
     {
-        self.chunk.make_room(room)
+        self.draft.make_room(room)
     }
 
     #[inline(always)]
     pub(crate) fn emit(&mut self, instruction: Instruction<'_>) -> Result<(), AllocError>
         ensures ok { OnOk result (self.new ≡ lengthened self.old (instruction.entry ∷ [])) }
     {
-        self.chunk.emit(self.alloc, &mut self.seen, instruction)
+        self.draft.emit(self.alloc, &mut self.seen, instruction)
     }
 
     #[inline(always)]
@@ -90,7 +98,7 @@ impl Compiler {
         ensures ok { OnOk result
             (self.new ≡ lengthened self.old (instruction.WriteText text.now ∷ [])) }
     {
-        self.chunk.emit_text(text)
+        self.draft.emit_text(text)
     }
 
     #[inline(always)]
@@ -98,7 +106,7 @@ impl Compiler {
         ensures ok { OnOk result
             (self.new ≡ lengthened self.old (instruction.WriteName name.now span ∷ [])) }
     {
-        self.chunk
+        self.draft
             .emit_name(self.alloc, &mut self.seen, Sought::new(name), span)
     }
 
@@ -108,7 +116,7 @@ impl Compiler {
         ensures ok { OnOk result (self.new ≡ lengthened self.old
             (instruction.MakeArray (spreads_of (items_of items.now)) span ∷ [])) }
     {
-        self.chunk.emit_array(items, span)
+        self.draft.emit_array(items, span)
     }
 
     // Keeps a position for a jump, whose length is known once what it passes is written.
@@ -117,7 +125,7 @@ impl Compiler {
         ensures position { IfOk result (λ position. position ≡ length self.old.code) }
         ensures ok { OnOk result (self.new ≡ lengthened self.old (instruction.Jump 0 ∷ [])) }
     {
-        let position = self.chunk.len();
+        let position = self.draft.len();
         self.emit(Instruction::Jump(0))?;
         Ok(position)
     }
@@ -127,7 +135,7 @@ impl Compiler {
         requires { position < length self.now.code }
         ensures { result ≡ behind position self.now }
     {
-        self.chunk.len() - position - 1
+        self.draft.len() - position - 1
     }
 
     // Puts the instruction at the position that was kept for it.
@@ -140,7 +148,7 @@ impl Compiler {
         requires { position < length self.old.code }
         ensures ok { OnOk result (self.new ≡ filled position instruction.entry self.old) }
     {
-        self.chunk
+        self.draft
             .fill(self.alloc, &mut self.seen, position, instruction)
     }
 

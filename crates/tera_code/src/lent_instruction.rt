@@ -96,7 +96,7 @@ impl<'a> LentInstruction<'a> {
         ensures exact { option_map (λ p. (p.0.now, p.1)) result ≡ loaded_name self.now }
     {
         match *self.packed {
-            Packed::LoadName { name, span } => {
+            Packed::LoadName { name, span, .. } => {
                 Some((self.tables.whole_name(name), self.tables.span(span)))
             }
             _ => None,
@@ -190,6 +190,7 @@ impl<'a> LentInstruction<'a> {
                 counts,
                 names,
                 size,
+                ..
             } => {
                 let (key, name) = self.tables.loop_names(names);
                 Some((key, name, counts, size))
@@ -309,7 +310,7 @@ impl<'a> LentInstruction<'a> {
 
     /// Whether it takes an attribute of the topmost operand, puts that out or tests it.
     #[inline(always)]
-    pub fn uses_top(&self) -> bool
+    pub(crate) fn uses_top(&self) -> bool
         ensures { result ≡ uses_top self.now }
     {
         matches!(
@@ -341,6 +342,7 @@ impl<'a> LentInstruction<'a> {
     }
 
     // What it calls.
+    #[inline(always)]
     pub(crate) fn callee(&self) -> Option<Callee<'a>>
         ensures { option_map callee_of result ≡ called_by self.now }
     {

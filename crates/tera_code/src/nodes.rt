@@ -13,8 +13,9 @@ use crate::lent_parts::LentName;
 use crate::room::Room;
 use crate::single_forms::is_context;
 use std::alloc::{AllocError, Global};
+use tera_errors::lacking;
 use tera_syntax_tree::{ComponentTag, Expression, Heading, Node};
-use tera_values::Span;
+use tera_values::{Name, Span};
 
 impl Compiler {
     /// The instructions of the nodes, one after another, behind those that are there. Where memory is refused some may be missing.
@@ -201,7 +202,7 @@ impl Compiler {
 pub fn compiled(alloc: Global, file: &str, nodes: &[Node]) -> Result<Chunk, AllocError>
     ensures ok { IfOk result (λ c. c ≡ listing_of file.now (nodes_of nodes.now)) }
 {
-    let mut compiler = Compiler::new(alloc, file)?;
+    let mut compiler = Compiler::of(alloc, lacking(Name::new(alloc, file))?);
     compiler.compile(nodes)?;
     Ok(compiler.into_chunk())
 }

@@ -3,6 +3,7 @@ ghost use Rattle.std.specs.Prelude.{◌≡◌, ◌<◌, ◌-◌, IfOk};
 ghost use Rattle.tera_code.specs.Calls.{call_of};
 ghost use Rattle.tera_code.specs.Code.{spreads_of};
 ghost use Rattle.tera_code.specs.Packed.{Grows, Longer, IsAt, Packs, shelf_of};
+ghost use Rattle.tera_code.specs.Settled.{has_notes, reads_on, printing_size};
 ghost use Rattle.tera_syntax_tree.specs.Prelude.{items_of, keys_of};
 ghost use Rattle.tera_code.specs.declared.instruction.Instruction.TheVariants as instruction;
 
@@ -45,6 +46,8 @@ pub(crate) enum Packed {
         span: u32,
     },
     LoadName {
+        // whether what stands behind uses the value up
+        reads_on: bool,
         name: u32,
         span: u32,
     },
@@ -85,6 +88,8 @@ pub(crate) enum Packed {
     },
     StartLoop {
         counts: bool,
+        // whether the body puts out texts and items alone
+        prints: bool,
         names: u32,
         size: usize,
     },
@@ -138,6 +143,39 @@ pub(crate) enum Packed {
 
 // The layout follows the order of the fields.
 const _: () = prove!(size_of::<Packed>() == 16);
+
+impl Packed {
+    /// Whether something is noted in it of those behind it.
+    #[inline(always)]
+    pub(crate) fn has_notes(&self) -> bool
+        ensures { result ≡ has_notes self.now }
+    {
+        matches!(self, Packed::LoadName { .. } | Packed::StartLoop { .. })
+    }
+
+    /// Whether it loads a name of which is noted that it is used up.
+    #[inline(always)]
+    pub(crate) fn reads_on(&self) -> bool
+        ensures { result ≡ reads_on self.now }
+    {
+        matches!(self, Packed::LoadName { reads_on: true, .. })
+    }
+
+    /// The size of the body of the loop that it opens, of which is noted that it puts out texts and items alone.
+    #[inline(always)]
+    pub(crate) fn printing_size(&self) -> Option<usize>
+        ensures { result ≡ printing_size self.now }
+    {
+        match *self {
+            Packed::StartLoop {
+                prints: true,
+                size,
+                ..
+            } => Some(size),
+            _ => None,
+        }
+    }
+}
 
 /// What a loop calls its items.
 #[derive(Drop)]
@@ -447,7 +485,11 @@ impl Tables {
             Instruction::LoadConst(constant, span) => self.constant(&constant, span),
             Instruction::LoadName(name, span) => {
                 let (name, span) = self.name_and_span(alloc, seen, &name, span)?;
-                Ok(Packed::LoadName { name, span })
+                Ok(Packed::LoadName {
+                    reads_on: false,
+                    name,
+                    span,
+                })
             }
             Instruction::LoadContext(span) => {
                 let span = number(&mut self.spans, span)?;
@@ -495,6 +537,7 @@ impl Tables {
                 let names = self.add_loop(&key, &name)?;
                 Ok(Packed::StartLoop {
                     counts,
+                    prints: false,
                     names,
                     size,
                 })

@@ -159,7 +159,7 @@ impl Tables {
             | Packed::LoadConst { span, .. } => {
                 Instruction::LoadConst(self.constant_of(packed), self.span(span))
             }
-            Packed::LoadName { name, span } => {
+            Packed::LoadName { name, span, .. } => {
                 Instruction::LoadName(self.name(name), self.span(span))
             }
             Packed::LoadContext { span } => Instruction::LoadContext(self.span(span)),
@@ -198,6 +198,7 @@ impl Tables {
                 counts,
                 names,
                 size,
+                ..
             } => {
                 let (key, name) = self.loop_names(names);
                 Instruction::StartLoop {

@@ -20,6 +20,7 @@ use Rattle.tera_code.specs.declared.instruction.Instruction.TheVariants as instr
 use Rattle.tera_code.specs.Asked.{started_loop, ended_loop, is_next_turn}
 use Rattle.tera_code.specs.Code.{Code}
 use Rattle.tera_code.specs.Printing.{puts, puts_up_to, closes_at, printing, printing_loop_at}
+use Rattle.tera_code.proofs.Parts.{both, opens_by, parts_end, puts_by}
 use Rattle.tera_meaning.specs.Here.{Here}
 use Rattle.tera_machine.specs.declared.machine.Flow as declared
 use Rattle.tera_machine.specs.Config.{Config}
@@ -60,10 +61,6 @@ item_found n counts turns index v around vars e =
 
 -- what the parts are of which one is put out
 module _ (name : Name) (code : Code) where
-  puts_by : (b : Bool) (o : Option ℕ) (end : ℕ) → cond b o None ≡ Some end → (b ≡ true) × (o ≡ Some end)
-  puts_by true o end e = (refl, e)
-  puts_by false o end e = cc
-
   pub part_puts : (left at end : ℕ) (i : Instruction) → 0 < left → slice_get code at ≡ Some i → puts_up_to name code left at ≡ Some end → (puts name i ≡ true) × (puts_up_to name code (left - 1) (at + 1) ≡ Some end)
   part_puts zero at end i some e p = absurd (omega (arith, some))
   part_puts (suc n) at end i some e p =
@@ -75,12 +72,6 @@ module _ (name : Name) (code : Code) where
   part_missing zero at end some e p = absurd (omega (arith, some))
   part_missing (suc n) at end some e p =
       true≢false (sym (puts_by false (puts_up_to name code n (at + 1)) end (sym (ap (λ o. cond (unwrap_or (option_map (puts name) o) false) (puts_up_to name code n (at + 1)) None) e) ∙ p)).0)
-
-  pub parts_end : (left at end : ℕ) → puts_up_to name code left at ≡ Some end → end ≡ at + left
-  parts_end zero at end p = let same : at ≡ end = cc in omega (arith, same)
-  parts_end (suc n) at end p =
-      let behind = parts_end n (at + 1) end (puts_by (unwrap_or (option_map (puts name) (slice_get code at)) false) (puts_up_to name code n (at + 1)) end p).1 in
-      omega (arith, behind)
 
   -- the parts of the whole body
   pub parts_between : (start size : ℕ) → puts_up_to name code size start ≡ Some (start + size) → puts_up_to name code (start + size - start) start ≡ Some (start + size)
@@ -148,24 +139,11 @@ turning_over {s} {code} {start} {size} {n} h turns index vs c all t =
 pub loop_closes : {s : Start} {code : Code} {start size n n2 : ℕ} {c : Config} (b : Behind s code start size n c) (skip : ℕ) (e : slice_get code (start + size + 1) ≡ Some (instruction.EndLoop skip)) (m : n2 ≡ n + 1) → done s.here code (suc (n2 - s.count)) s.at s.config ≡ Goes c (Skip skip)
 loop_closes b skip e m = does_before b.before e m
 
--- what is known of such a loop by what opens it
-opens_by : (b : Bool) (o : Option ℕ) (closes : ℕ → Bool) (n size : ℕ) → cond b None (option_and_then (λ end. cond (closes end) (Some n) None) o) ≡ Some size → (b ≡ false) × (n ≡ size) × ((end : ℕ) × (o ≡ Some end) × (closes end ≡ true))
-opens_by true o closes n size e = cc
-opens_by false None closes n size e = cc
-opens_by false (Some end) closes n size e = by (closes end) refl e
-  where
-    by : (b : Bool) → closes end ≡ b → cond b (Some n) None ≡ Some size → (false ≡ false) × (n ≡ size) × ((x : ℕ) × (Some end ≡ Some x) × (closes x ≡ true))
-    by true q x = (refl, cc, (end, refl, q))
-    by false q x = cc
-
-second : (a b : Bool) → (a && b) ≡ true → b ≡ true
-second true b e = e
-second false b e = cc
-
 not_some : {A : Type 0} (o : Option A) → is_some o ≡ false → o ≡ None
 not_some None e = refl
 not_some (Some a) e = cc
 
+-- what is known of such a loop by what opens it
 pub prints_items : (code : Code) (at size : ℕ) (i : Instruction) (key : Option Name) (name : Name) (counts : Bool) (n : ℕ) → slice_get code at ≡ Some i → i ≡ instruction.StartLoop key name counts n → printing_loop_at code at ≡ Some size → slice_get code (at + 1 + size) ≡ Some instruction.NextTurn → (key ≡ None) × (n ≡ size) × PrintsItems code (at + 1) size name
 prints_items code at size i (Some k) name counts n e f p t = absurd (keyed (sym (ap (λ o. option_and_then (printing code at) (option_and_then started_loop o)) (e ∙ ap Some f)) ∙ p))
   where
@@ -181,7 +159,7 @@ prints_items code at size i None name counts n e f p t =
         uncounted = not_some (counter_of name) known.0;
         parts = parts ∙ ap Some behind;
         ends = t;
-        closes = subst (λ end. is_some (option_and_then ended_loop (slice_get code (end + 1))) ≡ true) behind (second (unwrap_or (option_map is_next_turn (slice_get code known.2.0)) false) (is_some (option_and_then ended_loop (slice_get code (known.2.0 + 1)))) known.2.2);
+        closes = subst (λ end. is_some (option_and_then ended_loop (slice_get code (end + 1))) ≡ true) behind (both (unwrap_or (option_map is_next_turn (slice_get code known.2.0)) false) (is_some (option_and_then ended_loop (slice_get code (known.2.0 + 1)))) known.2.2).1;
       },
     )
 
@@ -212,7 +190,7 @@ effected_same d (Err (Some fault)) c c2 e same = e
 -- the topmost operand is the one that is taken
 pub topmost_is : (operands : List Evaluated) (top a : Evaluated) (rest : List Evaluated) → slice_get operands 0 ≡ Some top → operands ≡ a ∷ rest → a ≡ top
 topmost_is operands top a rest e f =
-    let both : Some a ≡ Some top = sym (ap (λ x. slice_get x 0) f) ∙ e in
+    let same_top : Some a ≡ Some top = sym (ap (λ x. slice_get x 0) f) ∙ e in
     let same : a ≡ top = cc in
     same
 

@@ -89,7 +89,7 @@ impl<'c> Configuration<'c> {
             chunk.now.code (suc (steps.new - steps.old)) at.old) self.old result self.new }
     {
         match instruction.as_loaded_name() {
-            Some((name, span)) if chunk.uses_top_at(*at + 1) => {
+            Some((name, span)) if chunk.reads_on_at(*at) => {
                 self.read(machine, chunk, at, name, span, steps)
             }
             Some((name, span)) => going_on(self.load_named(machine.alloc, name, span)),

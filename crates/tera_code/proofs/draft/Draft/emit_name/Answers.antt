@@ -1,6 +1,6 @@
 use Rattle.tera_code.specs.declared.instruction.Instruction.TheVariants as instruction
 use Rattle.tera_code.proofs.Growth.{all_grow, chunk_grows}
-use Rattle.tera_code.proofs.chunk.Chunk.emit_name.Goals as goal
+use Rattle.tera_code.proofs.draft.Draft.emit_name.Goals as goal
 
 pub invariant_of-self-2 : goal.invariant_of-self-2
 invariant_of-self-2 c =

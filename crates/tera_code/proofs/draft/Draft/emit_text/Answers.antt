@@ -1,5 +1,5 @@
 use Rattle.tera_code.proofs.Growth.{chunk_grows}
-use Rattle.tera_code.proofs.chunk.Chunk.emit_text.Goals as goal
+use Rattle.tera_code.proofs.draft.Draft.emit_text.Goals as goal
 
 pub returns : goal.returns
 returns c =

@@ -1,6 +1,6 @@
 use Rattle.std.proofs.Common.{refl}
 use Rattle.tera_code.proofs.Growth.{all_stay, all_grow, chunk_grows}
-use Rattle.tera_code.proofs.chunk.Chunk.emit.Goals as goal
+use Rattle.tera_code.proofs.draft.Draft.emit.Goals as goal
 
 pub invariant_of-self : goal.invariant_of-self
 invariant_of-self c = all_stay c.self.inside.tables c.pack.new.self c.in_err-packed.ensures.grows c.self.inside.code.items c.self.invariant _ refl

@@ -2,11 +2,12 @@
 from scripts import ORDERS, Row, added, each, page, shown, turns
 
 
-def ordered(name, size, script, orders="scattered", collide=0):
-    """A row for each order of names. Where they collide, so many are enough to tell."""
+def ordered(name, size, script, orders="scattered", collide=0, may=""):
+    """A row for each order of names. Where they collide, so many are enough to tell, and that row may be over for this reason."""
 
     def row(order):
-        return Row(f"{name}, {order}", collide if order == "colliding" and collide else size, lambda count: script(ORDERS[order](count)))
+        is_last = order == "colliding"
+        return Row(f"{name}, {order}", collide if is_last and collide else size, lambda count: script(ORDERS[order](count)), may=may if is_last else "")
 
     return [row(order) for order in orders.split()]
 
@@ -144,7 +145,7 @@ ROWS = [
     *ordered("names set for all in a loop's body, put out", 600, sets_for_all),
     *ordered("names that are set in an include, put out", 600, set_in_an_include),
     *ordered("names that are set, put out by an include", 600, set_around_an_include),
-    *ordered("names of the context, put out", 3_000, read_of_context, ALL, collide=150),
+    *ordered("names of the context, put out", 3_000, read_of_context, ALL, collide=150, may="host"),
     *ordered("names of the context, put out in a loop", 2_000, read_in_a_loop),
     *ordered("names of the context, as `__tera_context`", 3_000, all_of_context),
     *ordered("names of the context, and as many renderings", 1_500, renderings),

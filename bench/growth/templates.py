@@ -150,10 +150,10 @@ def not_there(size):
 
 ROWS = [
     *batches(1_000),
-    Row("templates one by one, rising", 200, one_by_one("x")),
-    Row("templates one by one, scattered", 200, in_scattered_order),
-    Row("templates one by one, each including the one before", 80, one_by_one('{% include "M" %}')),
-    Row("templates one by one, each extending the one before", 150, one_by_one('{% extends "M" %}')),
+    Row("templates one by one, rising", 200, one_by_one("x"), may="anew"),
+    Row("templates one by one, scattered", 200, in_scattered_order, may="anew"),
+    Row("templates one by one, each including the one before", 80, one_by_one('{% include "M" %}'), may="anew"),
+    Row("templates one by one, each extending the one before", 150, one_by_one('{% extends "M" %}'), may="anew"),
     Row("a template that is added again and again", 3_000, in_place),
     Row("templates of which each includes the next", 2_000, in_a_row('{% include "N" %}')),
     Row("templates of which each extends the next", 2_000, in_a_row('{% extends "N" %}')),
@@ -189,7 +189,7 @@ REFUSED = [
     Row("unknown functions of a text", 5_000, lost_beside("{{ N() }}"), "Message"),
     Row("unknown components of a text", 5_000, lost_beside("{{ <N/> }}"), "Message"),
     Row("components that two templates have", 2_000, components_again, "Message"),
-    Row("templates, and as many refused batches", 60, refused_again, "Message"),
+    Row("templates, and as many refused batches", 60, refused_again, "Message", may="anew"),
     Row("templates, and as many renderings of what is not there", 1_000, not_there, "TemplateNotFound"),
     Row("a fault in the last of includes", 2_000, in_a_row('{% include "N" %}', "{{ nope }}"), "RenderingError"),
     Row("a fault in the last block of a lineage", 1_500, in_a_row('{% extends "N" %}{% block b %}{{ super() }}{% endblock %}', "{% block b %}{{ nope }}{% endblock %}"), "RenderingError"),

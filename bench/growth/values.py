@@ -91,5 +91,5 @@ ROWS = [
     *(Row(f"an array of maps: {name}", 3_000, of(PAIRS + counted(it))) for name, it in OF_PAIRS.items()),
     *(Row(f"a map: {name}", 1_000, of(MAPS + counted(it))) for name, it in OF_MAPS.items()),
     *(Row(f"a loop: {name}", 1_500, of_text(MAP + it)) for name, it in OF_TURNS.items()),
-    *(Row(f"a loop: {name}", size, of_text(ARRAY + it), is_copy=True) for name, size, it in COPIES),
+    *(Row(f"a loop: {name}", size, of_text(ARRAY + it), may="copies") for name, size, it in COPIES),
 ]

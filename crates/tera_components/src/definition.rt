@@ -9,11 +9,15 @@ ghost use Rattle.tera_components.specs.Definition.{definition_of, formal_names, 
 use crate::argument::ComponentArg;
 use crate::faults;
 use std::alloc::Global;
+use std::collections::BTreeMap;
 use std::marker::Model;
 use tera_operators::Entries;
 use tera_state::Implicits;
 use tera_syntax_tree::Signature;
 use tera_values::{Context, Key, Kwargs, Map, Name, TeraResult, Value};
+
+// Up to so many parameters are put in order as they come. Of more, each would move many of those above it.
+const FEW: usize = 64;
 
 /// What a component is given, as its signature says. It borrows nothing from the source.
 #[derive(Drop)]
@@ -155,6 +159,48 @@ impl ComponentDefinition {
         Ok(())
     }
 
+    // The same in a map.
+    fn map_arguments<C: Implicits>(
+        &self,
+        alloc: Global,
+        given: &Entries<'_>,
+        caller: &C,
+        context: &mut BTreeMap<Name, Value>,
+    ) -> TeraResult<()>
+        ensures { Gives (λ _. context.new.entries) result
+            (or_message (with_formals (C.implicit caller.now)
+            (named_arguments given.now) self.now.formals context.old.entries)) }
+    {
+        for argument in self.arguments.iter() {
+            let value = argument.value(alloc, self.name.as_str(), given, caller)?;
+            let old = context.insert(argument.shared_name()?, value.shared(alloc)?)?;
+            drop(old);
+        }
+        Ok(())
+    }
+
+    // The body, and the values of the parameters at their names.
+    fn bound<C: Implicits>(
+        &self,
+        alloc: Global,
+        given: &Entries<'_>,
+        caller: &C,
+        body: Option<Value>,
+    ) -> TeraResult<Kwargs>
+        ensures { Gives (λ c. c) result
+            (or_message (with_formals (C.implicit caller.now)
+            (named_arguments given.now) self.now.formals (with_body body []))) }
+    {
+        if self.arguments.len() <= FEW {
+            let mut context = begun(alloc, self.arguments.len(), body)?;
+            self.put_arguments(alloc, given, caller, &mut context)?;
+            return Ok(context);
+        }
+        let mut context = map_begun(alloc, body)?;
+        self.map_arguments(alloc, given, caller, &mut context)?;
+        Kwargs::of_map(alloc, context)
+    }
+
     // Puts what no parameter takes at its name, and refuses it where it has none.
     fn put_others(&self, alloc: Global, others: Map, context: &mut Kwargs) -> TeraResult<()>
         ensures { (over : List (Name × Val)) → others ≡ text_keys over →
@@ -185,8 +231,7 @@ impl ComponentDefinition {
         ensures { Binds self.now (named_arguments given.now) body (C.implicit caller.now) result }
     {
         let others = self.others(alloc, given)?;
-        let mut context = begun(alloc, self.arguments.len(), body)?;
-        self.put_arguments(alloc, given, caller, &mut context)?;
+        let mut context = self.bound(alloc, given, caller, body)?;
         self.put_others(alloc, others, &mut context)?;
         Ok(context)
     }
@@ -228,6 +273,18 @@ fn begun(alloc: Global, parameters: usize, body: Option<Value>) -> TeraResult<Kw
     let mut context = Kwargs::with_capacity(alloc, parameters)?;
     if let Some(body) = body {
         context.insert("body", body)?;
+    }
+    Ok(context)
+}
+
+// The same as a map.
+fn map_begun(alloc: Global, body: Option<Value>) -> TeraResult<BTreeMap<Name, Value>>
+    ensures { Gives (λ c. c.entries) result (Ok (with_body body [])) }
+{
+    let mut context = BTreeMap::new(alloc);
+    if let Some(value) = body {
+        let old = context.insert(Name::new(alloc, "body")?, value.shared(alloc)?)?;
+        drop(old);
     }
     Ok(context)
 }

@@ -1,6 +1,7 @@
 pub mod Named
 pub mod Positions
 pub mod Contexts
+pub mod Kept
 pub mod Contents
 pub mod Powers
 pub mod Division

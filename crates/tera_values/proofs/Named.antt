@@ -115,6 +115,17 @@ module _ {A : Type 0} where
   inserted [] k a = refl
   inserted (e ∷ es) k a = by_test (bytes_eq k e.0) e es (insert_entry bytes_eq es k a) k a refl (inserted es k a)
 
+  -- so is one that is inserted into an ordered map from names
+  pub name_inserted : (es : Named A) (k : Name) (a : A) → insert_ordered name_cmp es k a ≡ put k a es
+  name_inserted [] k a = refl
+  name_inserted (e ∷ es) k a =
+      let chosen : Ordering → Named A = λ o. match_ordering o ((k, a) ∷ e ∷ es) ((e.0, a) ∷ es) (e ∷ insert_ordered name_cmp es k a) in
+      elim (three (name_cmp k e.0)) [
+        | inl h ↦ ap chosen h ∙ sym (before k a e es h)
+        | inr (inl h) ↦ ap chosen h ∙ ap (λ (n : Name). (n, a) ∷ es) (sym (exact_bytes k e.0 h)) ∙ sym (there k a e es h)
+        | inr (inr h) ↦ ap chosen h ∙ ap (λ (l : Named A). e ∷ l) (name_inserted es k a) ∙ sym (after k a e es h)
+      ]
+
 -- the entries of an ordered map from texts, by name
 abbrev pub texts : {Z A : Type 0} → List (String Z × A) → Named A
 texts es = map (λ e. (string_bytes e.0, e.1)) es

@@ -1,8 +1,9 @@
 -- Things by name, in byte order of the names.
-use Rattle.std.specs.Prelude.{ℕ, suc, Result, Ok, Err, List, [], ◌∷◌, Option, Some, None, cond, map}
+use Rattle.std.specs.Prelude.{ℕ, suc, Bool, not, Result, Ok, Err, List, [], ◌∷◌, filter, Option, Some, None, cond, map}
 use Rattle.std.specs.declared.cmp.Ordering.{Ordering}
 use Rattle.std.specs.Ordering.{nat_cmp, match_ordering}
 use Rattle.std.specs.Cmp.Lexicographic.{slice_cmp}
+use Rattle.std.specs.List.{list_any}
 use Rattle.std.specs.List.Sorted.{IsStrictlySortedBy}
 use Rattle.std.specs.Coded.{Coded, coded×, coded_ℕ, coded_list}
 use Rattle.std.specs.Str.{bytes_eq}
@@ -38,6 +39,18 @@ position n (e ∷ es) = match_ordering (name_cmp n e.0) (Err 0) (Ok 0) (further 
 abbrev pub put_all : {A : Type 0} → Named A → Named A → Named A
 put_all [] m = m
 put_all (e ∷ es) m = put_all es (put e.0 e.1 m)
+
+-- whether a name is one of these
+abbrev pub is_one_of : List Name → Name → Bool
+is_one_of names name = list_any (λ n. bytes_eq name n) names
+
+-- the things with one of these names
+abbrev pub with_names : {A : Type 0} → List Name → Named A → Named A
+with_names names m = filter (λ e. is_one_of names e.0) m
+
+-- the others
+abbrev pub without_names : {A : Type 0} → List Name → Named A → Named A
+without_names names m = filter (λ e. not (is_one_of names e.0)) m
 
 -- the same things at text keys
 abbrev pub text_keys : {A : Type 0} → Named A → List (KeyVal × A)

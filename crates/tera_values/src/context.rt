@@ -1,8 +1,8 @@
 // What a rendering is given: values by name.
-ghost use Rattle.std.specs.Prelude.{◌≡◌, [], Ok, IfErr, OnOk, OnErr, map, option_copied, string_bytes};
+ghost use Rattle.std.specs.Prelude.{◌≡◌, [], ◌∷◌, Ok, IfErr, OnOk, OnErr, map, option_copied, string_bytes};
 ghost use Rattle.tera_errors.specs.Prelude.{Gives, Lacks};
 ghost use Rattle.tera_values_data.specs.Prelude.{entries, map as map_of};
-ghost use Rattle.tera_values.specs.Named.{at_name, put, put_all, text_keys, IsAscending};
+ghost use Rattle.tera_values.specs.Named.{at_name, put, put_all, text_keys, with_names, without_names, IsAscending};
 
 use crate::name::{Name, Sought};
 use indexmap::IndexMap;
@@ -107,6 +107,38 @@ impl Context {
         let mut copy = Context::new(self.alloc);
         copy.put_all(self)?;
         Ok(copy)
+    }
+
+    /// The same values at those of these names that are there.
+    pub fn try_clone_with(&self, names: &[&str]) -> TeraResult<Context>
+        ensures { Gives (λ c. c) result (Ok (with_names (map (λ n. n.now) names.now) self.now)) }
+    {
+        let mut copy = Context::new(self.alloc);
+        for name in names {
+            if let Some(value) = self.get(*name) {
+                copy.insert(*name, value.try_clone()?)?;
+            }
+        }
+        Ok(copy)
+    }
+
+    /// The same values at all other names.
+    pub fn try_clone_without(&self, names: &[&str]) -> TeraResult<Context>
+        ensures { Gives (λ c. c) result (Ok (without_names (map (λ n. n.now) names.now) self.now)) }
+    {
+        let mut copy = self.try_clone()?;
+        for name in names {
+            copy.leave_out(*name);
+        }
+        Ok(copy)
+    }
+
+    // Takes out what stands at the name. The order in which names were put is lost, and nobody sees it.
+    fn leave_out(&mut self, name: &str)
+        ensures { self.new ≡ without_names (name.now ∷ []) self.old }
+    {
+        let old = self.names.swap_remove(&Sought::new(name));
+        drop(old);
     }
 
     /// The map of the values at their names, in byte order of these.

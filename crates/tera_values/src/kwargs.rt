@@ -10,6 +10,7 @@ use crate::name::{Name, Sought};
 use crate::refusals::of_argument;
 use std::alloc::{AllocError, Global};
 use std::cmp::Ordering;
+use std::collections::BTreeMap;
 use std::marker::Model;
 use tera_errors::{Error, Guess, TeraResult};
 use tera_values_data::Value;
@@ -54,6 +55,16 @@ impl Kwargs {
     {
         Ok(Kwargs {
             entries: Vec::with_capacity(alloc, capacity)?,
+        })
+    }
+
+    /// What stands in the map, as it lies. Many arguments that come in no order are put there first: one that is put here moves
+    /// those above it.
+    pub fn of_map(alloc: Global, map: BTreeMap<Name, Value>) -> TeraResult<Kwargs>
+        ensures { Gives (λ k. k) result (Ok map.entries) }
+    {
+        Ok(Kwargs {
+            entries: map.into_iter().collect(alloc)?,
         })
     }
 

@@ -1,7 +1,8 @@
 // What is open and has a number, so that one need not go over it to ask whether a number is among it.
-ghost use Rattle.std.specs.Prelude.{◌≡◌, ◌<◌, ℕ, length, OnOk, OnErr};
-ghost use Rattle.tera_machine.specs.OpenThings.{has_number, nothing, one_more, one_fewer, begun, ended_at, SameMarks};
+ghost use Rattle.std.specs.Prelude.{◌≡◌, ◌<◌, ◌≤◌, ℕ, true, false, length, OnOk, OnErr};
+ghost use Rattle.tera_machine.specs.OpenThings.{has_number, nothing, one_more, one_fewer, begun, ended_at, few, height_of, mark_at, things_of, IsMarked};
 
+use indexmap::IndexMap;
 use std::alloc::{AllocError, Global};
 use std::marker::Model;
 use std::mem::replace;
@@ -12,10 +13,13 @@ pub trait Numbered: Drop {
     // That number.
     ghost number_of: { Self → ℕ };
 
-    /// That number. Numbers are positions in a table: as many marks as the greatest that was open take memory.
+    /// That number.
     fn number(&self) -> usize
         ensures { result ≡ number_of self.now };
 }
+
+/// So many of those that lie lowest are gone over, which is as fast as a map and takes no memory.
+const FEW: usize = 8;
 
 /// A thing that is open, with the mark that its number had before.
 #[derive(Drop)]
@@ -28,12 +32,12 @@ struct Marked<T> {
 /// around the others, and is not asked for until these have ended.
 ///
 /// A contract sees those inside and those around, the topmost first. The mark of a number is the height at which the topmost
-/// thing of that number lies, 1 for the lowest, or 0 where there is none. So it is asked in constant time whether a number is
-/// among those inside, and the marks are there once, however many starts there are.
+/// thing of that number lies, 1 for the lowest, where that is above the few lowest, and else 0. So it is asked in constant time
+/// whether a number is among those inside. Only marks that are not 0 take memory, and they do once, however many starts there are.
 #[derive(Drop)]
 pub struct OpenThings<T: Numbered> {
     things: Stack<Marked<T>>,
-    marks: Vec<usize>,
+    marks: IndexMap<usize, usize>,
     start: usize,
 }
 
@@ -44,22 +48,46 @@ impl<T: Numbered> Model for OpenThings<T> {
 
     ghost view = { λ o. parted o.start (things_of o.things) };
 
-    ghost invariant = { λ o. AreMarked T.number_of o.start o.things o.marks.items };
+    ghost invariant = { λ o. AreMarked T.number_of o.start o.things o.marks.entries };
 }
 
-/// Sees to it that there is a mark for this number, by marks that are 0.
-fn add_marks(marks: &mut Vec<usize>, number: usize) -> Result<(), AllocError>
-    ensures there { OnOk result (number < length marks.new.items) }
-    ensures same { SameMarks marks.old.items marks.new.items }
+/// Whether a thing of this number lies above the start and is one of the few lowest.
+fn is_low<T: Numbered>(things: &Stack<Marked<T>>, start: usize, number: usize) -> bool
+    ensures there { result ≡ true
+        → start < height_of T.number_of number (things_of things.now) }
+    ensures not_there { result ≡ false
+        → height_of T.number_of number (things_of things.now) ≤ few
+        → height_of T.number_of number (things_of things.now) ≤ start }
 {
-    if number < marks.len() {
-        return Ok(());
+    for height in start..things.len().min(FEW) {
+        if things.at_height(height).thing.number() == number {
+            return true;
+        }
     }
-    let Some(count) = number.checked_add(1) else {
-        return Err(AllocError);
-    };
-    // At once, not one by one: the first to be open may be the last of thousands. The room doubles here as by `push`.
-    marks.resize(count, 0)
+    false
+}
+
+/// The mark of a number.
+fn mark(marks: &IndexMap<usize, usize>, number: usize) -> usize
+    ensures { result ≡ mark_at marks.now.entries number }
+{
+    match marks.get(&number) {
+        Some(mark) => *mark,
+        None => 0,
+    }
+}
+
+/// Gives a number that has a mark the one that it had before.
+fn mark_again(marks: &mut IndexMap<usize, usize>, number: usize, before: usize)
+    requires { 0 < mark_at marks.old.entries number }
+    ensures { IsMarked number before marks.old.entries marks.new.entries }
+{
+    if before == 0 {
+        let mark = marks.swap_remove(&number);
+        drop(mark);
+    } else if let Some(mark) = marks.get_mut(&number) {
+        *mark = before;
+    }
 }
 
 impl<T: Numbered> OpenThings<T> {
@@ -69,7 +97,7 @@ impl<T: Numbered> OpenThings<T> {
     {
         OpenThings {
             things: Stack::new(alloc),
-            marks: Vec::new(alloc),
+            marks: IndexMap::new(alloc),
             start: 0,
         }
     }
@@ -78,7 +106,10 @@ impl<T: Numbered> OpenThings<T> {
     pub fn has(&self, number: usize) -> bool
         ensures { result ≡ has_number T.number_of number self.now.inner }
     {
-        number < self.marks.len() && self.marks[number] > self.start
+        if is_low(&self.things, self.start, number) {
+            return true;
+        }
+        self.things.len() > FEW && mark(&self.marks, number) > self.start
     }
 
     /// One more is open, inside the others.
@@ -86,21 +117,32 @@ impl<T: Numbered> OpenThings<T> {
         ensures ok { OnOk result (self.new ≡ one_more thing self.old) }
         ensures err { OnErr result (self.new ≡ self.old) }
     {
+        if self.things.len() < FEW {
+            self.things.push(Marked { thing, before: 0 })?;
+            return Ok(());
+        }
         let number = thing.number();
-        add_marks(&mut self.marks, number)?;
-        let before = self.marks[number];
+        let before = mark(&self.marks, number);
         self.things.push(Marked { thing, before })?;
-        self.marks[number] = self.things.len();
-        Ok(())
+        match self.marks.insert(number, self.things.len()) {
+            Ok(_) => Ok(()),
+            Err(_) => {
+                drop(self.things.take());
+                Err(AllocError)
+            }
+        }
     }
 
     /// The innermost ends, if one is inside. What is around stays.
     pub fn pop(&mut self)
         ensures { self.new ≡ one_fewer self.old }
     {
-        if self.things.len() > self.start {
+        let height = self.things.len();
+        if height > self.start {
             let Marked { thing, before } = self.things.take();
-            self.marks[thing.number()] = before;
+            if height > FEW {
+                mark_again(&mut self.marks, thing.number(), before);
+            }
         }
     }
 

@@ -2,6 +2,7 @@
 //! all.
 #![tactic(auto)]
 
+mod applied;
 mod batch;
 pub mod body;
 mod choices;

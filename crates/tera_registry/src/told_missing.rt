@@ -5,6 +5,7 @@ ghost use Rattle.tera_meaning.specs.Prelude.{Registry};
 ghost use Rattle.tera_registry.specs.Definers.{Climbable};
 ghost use Rattle.tera_registry.specs.Kept.{Rises, entries_of};
 
+use crate::applied::named_at;
 use crate::choices::Choice;
 use crate::code::Code;
 use crate::components::Component;
@@ -117,17 +118,18 @@ impl<'a, O: Objects> There<'a, O> {
         requires there { of < length self.now.templates.now }
     {
         let template: &Template = &self.templates[of];
+        let text = template.text.as_str();
         let code: &Code = &template.body;
-        self.add_code(&code.chunk, missing)?;
+        self.add_code(text, &code.chunk, missing)?;
         for block in template.blocks.iter() {
             let code: &Code = &block.code;
-            self.add_code(&code.chunk, missing)?;
+            self.add_code(text, &code.chunk, missing)?;
         }
-        self.add_codes(template.components.as_slice(), missing)?;
+        self.add_codes(text, template.components.as_slice(), missing)?;
         if template.parent.is_some() {
             self.add_blocks(ups, of, missing)?;
         }
-        missing.put_all(template.name.as_str(), template.text.as_str())
+        missing.put_all(template.name.as_str(), text)
     }
 
     // Puts what a text beside the templates lacks.
@@ -139,28 +141,28 @@ impl<'a, O: Objects> There<'a, O> {
     ) -> Result<(), AllocError>
         requires { Rises (entries_of self.now.templates.now) }
     {
-        self.add_code(body, missing)?;
+        self.add_code(text.source, body, missing)?;
         if let Some(own) = self.own {
-            self.add_codes(own.components, missing)?;
+            self.add_codes(text.source, own.components, missing)?;
         }
         missing.put_all(text.file, text.source)
     }
 
-    // Adds what the code calls and includes that is not there.
-    fn add_code(&self, chunk: &Chunk, missing: &mut Missing) -> Result<(), AllocError>
+    // Adds what the code of a text calls and includes that is not there.
+    fn add_code(&self, source: &str, chunk: &Chunk, missing: &mut Missing) -> Result<(), AllocError>
         requires { Rises (entries_of self.now.templates.now) }
     {
         for position in 0..chunk.len() {
             let span = chunk.span_at(position);
             if let Some(callee) = chunk.callee_at(position) {
                 if !is_known(self.objects, self.choices, self.own, callee) {
-                    self.add_callee(callee, span, missing)?;
+                    self.add_callee(callee, named(source, callee, span), missing)?;
                 }
             }
             if let Some(Target::Template(name)) = chunk.target_at(position) {
                 let name = name.as_str();
                 if resolve(self.templates, self.prefixes, name).is_none() {
-                    self.add_include(name, span, missing)?;
+                    self.add_include(name, start(span), missing)?;
                 }
             }
         }
@@ -168,12 +170,17 @@ impl<'a, O: Objects> There<'a, O> {
     }
 
     // The same of the code of components.
-    fn add_codes(&self, components: &[Component], missing: &mut Missing) -> Result<(), AllocError>
+    fn add_codes(
+        &self,
+        source: &str,
+        components: &[Component],
+        missing: &mut Missing,
+    ) -> Result<(), AllocError>
         requires { Rises (entries_of self.now.templates.now) }
     {
         for component in components {
             let code: &Code = &component.code;
-            self.add_code(&code.chunk, missing)?;
+            self.add_code(source, &code.chunk, missing)?;
         }
         Ok(())
     }
@@ -206,14 +213,14 @@ impl<'a, O: Objects> There<'a, O> {
             }
             guess.put(&mut words)?;
         }
-        missing.add(Some(span), words)
+        missing.add(span.start, words)
     }
 
     // A name that is called and stands for nothing.
     fn add_callee(
         &self,
         callee: Callee<'_>,
-        span: Option<Span>,
+        at: usize,
         missing: &mut Missing,
     ) -> Result<(), AllocError> {
         let (kind, name) = match callee {
@@ -228,7 +235,7 @@ impl<'a, O: Objects> There<'a, O> {
             self.guess_callee(callee, &mut guess)?;
             guess.put(&mut words)?;
         }
-        missing.add(span, words)
+        missing.add(at, words)
     }
 
     fn guess_callee(&self, callee: Callee<'_>, guess: &mut Guess<'_>) -> Result<(), AllocError> {
@@ -260,19 +267,14 @@ impl<'a, O: Objects> There<'a, O> {
     }
 
     // An included name that no template has.
-    fn add_include(
-        &self,
-        name: &str,
-        span: Option<Span>,
-        missing: &mut Missing,
-    ) -> Result<(), AllocError> {
+    fn add_include(&self, name: &str, at: usize, missing: &mut Missing) -> Result<(), AllocError> {
         let mut words = format!(in self.alloc; "there is no template `{name}` to include")?;
         if missing.may_guess() {
             let mut guess = Guess::new(self.alloc, name);
             add_templates(self.templates, &mut guess)?;
             guess.put(&mut words)?;
         }
-        missing.add(span, words)
+        missing.add(at, words)
     }
 }
 
@@ -291,12 +293,8 @@ impl Missing {
         self.guesses <= MOST_GUESSES
     }
 
-    // Adds what is said of a name at this span; at the start of the text where there is none.
-    fn add(&mut self, span: Option<Span>, words: String) -> Result<(), AllocError> {
-        let at = match span {
-            Some(span) => span.start,
-            None => 0,
-        };
+    // Adds what is said of a name at this place of the text.
+    fn add(&mut self, at: usize, words: String) -> Result<(), AllocError> {
         self.lacks.push(Lack { at, words })?;
         Ok(())
     }
@@ -320,6 +318,26 @@ impl Missing {
         self.lacks.clear();
         Ok(())
     }
+}
+
+// Where a span starts; where there is none, at the start of the text.
+fn start(span: Option<Span>) -> usize {
+    match span {
+        Some(span) => span.start,
+        None => 0,
+    }
+}
+
+// Where a name is called: that of a filter or a test stands behind the operand, with which the span starts.
+fn named(source: &str, callee: Callee<'_>, span: Option<Span>) -> usize {
+    let start = start(span);
+    let (Some(span), Callee::Filter(name) | Callee::Test(name)) = (span, callee) else {
+        return start;
+    };
+    let Some(application) = source.get(span.start..span.end) else {
+        return start;
+    };
+    start.saturating_add(named_at(application, name).unwrap_or(0))
 }
 
 // The place of the end of a part of a text whose start is at this place.

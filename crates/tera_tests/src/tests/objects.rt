@@ -130,9 +130,9 @@ fn names_of_built_ins_are_taken(rt: HostRuntime) {
 /// Names of the caller's objects that are misspelled, and what is said of them.
 const MISSPELLED: &str = "{{ 1 | bould }}{{ helo() }}{% if 1 is wrnog %}{% endif %}";
 
-const MEANT: &str = "page.html:1:4: there is no filter `bould` (is `bold` meant?)
+const MEANT: &str = "page.html:1:8: there is no filter `bould` (is `bold` meant?)
 page.html:1:19: there is no function `helo` (is `hello` meant?)
-page.html:1:34: there is no test `wrnog` (is `wrong` meant?)";
+page.html:1:39: there is no test `wrnog` (is `wrong` meant?)";
 
 fn guesses(alloc: Global) -> TeraResult<bool> {
     let mut engine = engine(alloc)?;

@@ -24,7 +24,7 @@ const LACKING: [(&str, &str); 2] = [
     ("list.html", ""),
 ];
 
-const MISSING: &str = "page.html:1:4: there is no filter `trunacte` (is `truncate` meant?)
+const MISSING: &str = "page.html:1:8: there is no filter `trunacte` (is `truncate` meant?)
 page.html:1:30: there is no template `lits.html` to include (is `list.html` meant?)";
 
 const ABSENT: &str = "there is no template `none.html`";

@@ -7,13 +7,21 @@ pub const CASES: &str = r##"
 {{ title | uper }}
 {{ title | truncat(length=3) }}
 => page.html
-page.html:2:4: there is no filter `uper`
-page.html:3:4: there is no filter `truncat` (is `truncate` meant?)
+page.html:2:12: there is no filter `uper`
+page.html:3:12: there is no filter `truncat` (is `truncate` meant?)
+====
+---- page.html
+{{ uper | uper(a="| uper", b=(1 | uper)) }}{{ (x is not evn) is evn }}
+=> page.html
+page.html:1:11: there is no filter `uper`
+page.html:1:35: there is no filter `uper`
+page.html:1:57: there is no test `evn` (is `even` meant?)
+page.html:1:65: there is no test `evn` (is `even` meant?)
 ====
 ---- page.html
 {% if title is defned %}{% endif %}{{ rnage(end=3) }}
 => page.html
-page.html:1:7: there is no test `defned` (is `defined` meant?)
+page.html:1:16: there is no test `defned` (is `defined` meant?)
 page.html:1:39: there is no function `rnage` (is `range` meant?)
 ====
 ---- page.html
@@ -195,7 +203,7 @@ __tera_one_off:1:4: `titel` is undefined
 ---- text
 {{ title | uper }}{% include "page.html" %}
 => text
-__tera_one_off:1:4: there is no filter `uper`
+__tera_one_off:1:12: there is no filter `uper`
 __tera_one_off:1:30: there is no template `page.html` to include
 ====
 ---- text
@@ -253,10 +261,10 @@ and 4 more
 {% block x %}{% endblock %}
 {{ <Crad/> }}
 => one.html
-one.html:1:4: there is no filter `trimm` (is `trim` meant?)
-one.html:2:4: there is no filter `lenght` (is `length` meant?)
+one.html:1:8: there is no filter `trimm` (is `trim` meant?)
+one.html:2:8: there is no filter `lenght` (is `length` meant?)
 three.html:2:10: no template above has a block `x`
 three.html:3:4: there is no component `Crad`
 two.html:1:12: there is no template `on.html` to include (is `one.html` meant?)
-two.html:2:4: there is no test `evn` (is `even` meant?)
+two.html:2:9: there is no test `evn` (is `even` meant?)
 "##;

@@ -1,13 +1,13 @@
 -- Bindings whose layers are alike.
 use Rattle.std.proofs.Common.{◌≡◌, ◌≢◌, ◌⊎◌, inl, inr, ℕ, List, [], ◌∷◌, ◌++◌, Bool, true, false, cond, Option, Some, None, refl, sym, ap, ap₂, ◌∙◌, subst, true≢false, append-nil, filter, Result, Ok, Err, OnOk, OnErr, if◌then◌else◌}
 use Rattle.std.proofs.lemmas.Bool.{eqb-true, eqb-false}
-use Rattle.std.specs.Prelude.{nat_eq, ◌&&◌}
+use Rattle.std.specs.Prelude.{nat_eq}
 use Rattle.std.specs.Option.{option_or}
 use Rattle.tera_errors.specs.Site.{Name}
 use Rattle.tera_values.specs.Val.{Val}
 use Rattle.tera_values.specs.Named.{at_name}
 use Rattle.tera_state.specs.Scope.{Bindings, bind}
-use Rattle.tera_state.specs.Bound.{value_in, with_binding, layer_of, is_beyond, IsUpTo, EndsBy, AreAlike}
+use Rattle.tera_state.specs.Bound.{value_in, with_binding, layer_of, is_beyond, EndsBy, AreAlike}
 use Rattle.tera_state.specs.BindingMap.{AreApart}
 use Rattle.tera_state.specs.declared.bindings.Binding.{Binding}
 use Rattle.tera_state.proofs.Cases.{either}

@@ -1,4 +1,4 @@
-use Rattle.std.proofs.Common.{rules, ◌∙◌, ◌++◌, List, ap}
+use Rattle.std.proofs.Common.{rules, ◌∙◌, List, ap}
 use Rattle.tera_state.specs.declared.bindings.Binding.{Binding}
 use Rattle.tera_state.specs.Bound.{with_binding, layer_of}
 use Rattle.tera_state.proofs.Parts.{with-second, pushed}

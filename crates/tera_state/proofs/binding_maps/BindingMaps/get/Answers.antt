@@ -1,4 +1,4 @@
-use Rattle.std.proofs.Common.{◌≡◌, ◌∙◌, [], ap, sym, subst}
+use Rattle.std.proofs.Common.{◌≡◌, ◌∙◌, [], ap}
 use Rattle.tera_state.specs.Bound.{value_in, layer_of}
 use Rattle.tera_state.proofs.Alike.{first_value, second_value}
 use Rattle.tera_state.proofs.binding_maps.BindingMaps.get.Goals as goal

@@ -78,6 +78,15 @@ def sets_for_all(names):
     return shown(turns(2, each("{% set_global N = 1 %}", names)) + each("{{ N }}", names))
 
 
+def set_between_turns(names):
+    loop = "{% set a = i %}{% set_global z = i %}" + turns(len(names), "{% set b = 1 %}")
+    return shown(each("{% set N = 1 %}", names) + "{% for i in [1] %}" + loop + "{% endfor %}")
+
+
+def sets_for_all_behind_a_turn(names):
+    return shown(each("{% set N = 1 %}", names) + each("{% for i in [1] %}{% set a = i %}{% set_global gN = i %}{% endfor %}", names))
+
+
 def set_in_an_include(names):
     return page('{% include "i" %}', [("i", each("{% set N = 1 %}", names) + each("{{ N }}", names))])
 
@@ -143,6 +152,8 @@ ROWS = [
     *ordered("names that are set, put out", 800, sets, ALL, collide=150),
     *ordered("names that are set in a loop's body, put out", 600, sets_in_a_loop),
     *ordered("names set for all in a loop's body, put out", 600, sets_for_all),
+    *ordered("names that are set, and as many turns that set one behind a name set for all", 600, set_between_turns),
+    *ordered("names that are set, and as many loops, each with a name set for all", 600, sets_for_all_behind_a_turn),
     *ordered("names that are set in an include, put out", 600, set_in_an_include),
     *ordered("names that are set, put out by an include", 600, set_around_an_include),
     *ordered("names of the context, put out", 3_000, read_of_context, ALL, collide=150, may="host"),

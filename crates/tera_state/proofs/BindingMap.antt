@@ -14,7 +14,7 @@ use Rattle.tera_state.specs.declared.layer_name.LayerName.{LayerName}
 use Rattle.tera_state.specs.declared.part.Part.{Part}
 use Rattle.tera_state.specs.Bound.{is_for, is_beyond, value_in, with_binding}
 use Rattle.tera_state.specs.BindingMap.{binding, bindings, layer_at, rises_from, is_outside, outside, last_layer, goes_on, ends_in}
-use Rattle.tera_state.proofs.Once.{new}
+use Rattle.tera_state.proofs.Cases.{new}
 use Rattle.tera_state.proofs.Rising.{some_or, outside-last, rises-longer, rises-shorter}
 
 abbrev Entries : Type 0

@@ -4,10 +4,12 @@ use Rattle.std.proofs.lemmas.Bool.{eqb-true, eqb-false, ltb-true, ltb-false}
 use Rattle.std.specs.Prelude.{nat_eq, nat_lt, ◌&&◌, ◌||◌, not, filter}
 use Rattle.tera_errors.specs.Site.{Name}
 use Rattle.tera_values.specs.Val.{Val}
+use Rattle.tera_values.specs.Named.{at_name}
 use Rattle.tera_state.specs.declared.bindings.Binding.{Binding}
 use Rattle.tera_state.specs.declared.bindings.Layer.{Layer}
-use Rattle.tera_state.specs.Bound.{is_for, value_in, with_binding, without, without_frame, is_beyond, IsUpTo, IsOnce, EndsBy, end_with, end_without}
-use Rattle.tera_state.proofs.Once.{either, all_three, past}
+use Rattle.tera_state.specs.Bound.{is_for, value_in, with_binding, without, without_frame, is_beyond, IsUpTo, layer_of, EndsBy, end_with, end_without}
+use Rattle.tera_state.proofs.Cases.{either, both}
+use Rattle.tera_state.proofs.Layers.{in_layer, skipped, value-is}
 
 -- layer l of frame f comes after layer j of frame g
 abbrev IsAfter : ℕ → ℕ → ℕ → ℕ → Type 0
@@ -38,14 +40,17 @@ apart h k f l g j (inl lt) (inr x) a b = let e = x.0 in omega (arith, lt, e, a)
 apart h k f l g j (inr t) (inl x) a b = let e = t.0 in omega (arith, e, x, a)
 apart h k f l g j (inr t) (inr x) a b = let le = t.1 in let lt = x.1 in omega (arith, le, lt, b)
 
-not_for : (b : Binding) (f l g j : ℕ) (n : Name) → IsUpTo b.frame b.layer g j → IsAfter f l g j → is_for f l n b ≡ false
-not_for b f l g j n u a = either (is_for f l n b)
-    (λ t. let p = all_three (nat_eq b.frame f) (nat_eq b.layer l) _ t in absurd (apart b.frame b.layer f l g j u a (eqb-true b.frame f p.0) (eqb-true b.layer l p.1)))
+not_there : (b : Binding) (f l g j : ℕ) → IsUpTo b.frame b.layer g j → IsAfter f l g j → in_layer f l b ≡ false
+not_there b f l g j u a = either (in_layer f l b)
+    (λ t. let p = both (nat_eq b.frame f) (nat_eq b.layer l) t in absurd (apart b.frame b.layer f l g j u a (eqb-true b.frame f p.0) (eqb-true b.layer l p.1)))
     (λ t. t)
 
+pub none_beyond : (bs : List Binding) (f l g j : ℕ) → EndsBy bs g j → is_beyond f l g j ≡ true → layer_of bs f l ≡ []
+none_beyond [] f l g j h e = refl
+none_beyond (b ∷ bs) f l g j h e = skipped b bs f l (not_there b f l g j h.0 (after f l g j e)) ∙ none_beyond bs f l g j h.1 e
+
 pub nothing_after : (bs : List Binding) (f l g j : ℕ) (n : Name) → EndsBy bs g j → is_beyond f l g j ≡ true → value_in bs f l n ≡ None
-nothing_after [] f l g j n h e = refl
-nothing_after (b ∷ bs) f l g j n h e = past (is_for f l n b) b.value (value_in bs f l n) (not_for b f l g j n h.0 (after f l g j e)) (nothing_after bs f l g j n h.1 e)
+nothing_after bs f l g j n h e = value-is bs f l n ∙ ap (at_name n) (none_beyond bs f l g j h e)
 
 kept_by : (p q : Bool) (b : Binding) (bs rest : List Binding) → (p ≡ true → q ≡ true → ⊥) → rest ≡ bs → cond (not p || not q) (b ∷ rest) rest ≡ b ∷ bs
 kept_by true true b bs rest ne e = absurd (ne refl refl)
@@ -146,7 +151,7 @@ pub ends_put : (bs : List Binding) (f l : ℕ) (end : Layer) (n : Name) (v : Val
 ends_put bs f l end n v h =
     ends-with bs f l (end_with f l end).frame (end_with f l end).layer n v (within_by f l end (is_beyond f l end.frame end.layer) refl) (ends-end_with bs f l end h)
 
--- the whole invariant, of what was made of the bindings and of their end
-pub holds_of : (bs cs : List Binding) (end last : Layer) → bs ≡ cs → end ≡ last → IsOnce cs → EndsBy cs last.frame last.layer → IsOnce bs × EndsBy bs end.frame end.layer
-holds_of bs cs end last p q once ends =
-    (subst IsOnce (sym p) once, subst (λ (x : List Binding). EndsBy x end.frame end.layer) (sym p) (subst (λ (y : Layer). EndsBy cs y.frame y.layer) (sym q) ends))
+-- what was made of the bindings and of their end
+pub ends_of : (bs cs : List Binding) (end last : Layer) → bs ≡ cs → end ≡ last → EndsBy cs last.frame last.layer → EndsBy bs end.frame end.layer
+ends_of bs cs end last p q ends =
+    subst (λ (x : List Binding). EndsBy x end.frame end.layer) (sym p) (subst (λ (y : Layer). EndsBy cs y.frame y.layer) (sym q) ends)

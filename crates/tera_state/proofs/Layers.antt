@@ -1,5 +1,5 @@
 -- Layers of the list of bindings.
-use Rattle.std.proofs.Common.{◌≡◌, ◌≢◌, ◌⊎◌, inl, inr, ℕ, suc, ◌<◌, ◌≤◌, Bool, true, false, cond, List, [], ◌∷◌, length, refl, sym, ap, ap₂, ◌∙◌, arith, true≢false, if◌then◌else◌, Option, Some}
+use Rattle.std.proofs.Common.{◌≡◌, ◌≢◌, ◌⊎◌, inl, inr, ℕ, suc, ◌<◌, ◌≤◌, Bool, true, false, cond, List, [], ◌∷◌, length, refl, sym, ap, ap₂, ◌∙◌, arith, if◌then◌else◌, Option, Some}
 use Rattle.std.proofs.lemmas.Bool.{eq-eqb, ne_eqb, eqb-true}
 use Rattle.std.specs.Prelude.{nat_eq, ◌&&◌, ◌||◌, not, bytes_eq}
 use Rattle.tera_errors.specs.Site.{Name}
@@ -12,9 +12,9 @@ use Rattle.tera_state.specs.Scopes.{variables_at, above_of, frame_of}
 use Rattle.tera_state.specs.declared.bindings.Binding.{Binding}
 use Rattle.tera_state.specs.declared.loops.ForLoop.{ForLoop}
 use Rattle.tera_state.specs.declared.frame.Frame.{Frame}
-use Rattle.tera_state.proofs.Once.{either, new}
+use Rattle.tera_state.proofs.Cases.{either, both, new}
 
-abbrev in_layer : ℕ → ℕ → Binding → Bool
+abbrev pub in_layer : ℕ → ℕ → Binding → Bool
 in_layer f l b = nat_eq b.frame f && nat_eq b.layer l
 
 -- a value that is found in a layer
@@ -35,8 +35,11 @@ bind_by true true false b f l n v bs more p q r h = rw (p, q, r, h) refl
 bind_by true false r b f l n v bs more p q r' h = rw (p, q) h
 bind_by false q r b f l n v bs more p q' r' h = rw p h
 
+pub in_own : (b : Binding) → in_layer b.frame b.layer b ≡ true
+in_own b = rw (eq-eqb b.frame b.frame refl, eq-eqb b.layer b.layer refl) refl
+
 itself : (f l : ℕ) (n : Name) (v : Val) → in_layer f l (new f l n v) ≡ true
-itself f l n v = rw (eq-eqb f f refl, eq-eqb l l refl) refl
+itself f l n v = in_own (new f l n v)
 
 pub bind_there : (bs : List Binding) (f l : ℕ) (n : Name) (v : Val) → layer_of (with_binding bs f l n v) f l ≡ bind n v (layer_of bs f l)
 bind_there [] f l n v = ap (λ t. if t then (n, v) ∷ [] else []) (itself f l n v)
@@ -48,10 +51,6 @@ elsewhere g f j l b ne e = either (in_layer g j b)
     (λ t. absurd (apart ne (both (nat_eq b.frame f) (nat_eq b.layer l) e) (both (nat_eq b.frame g) (nat_eq b.layer j) t)))
     (λ t. t)
   where
-    both : (x y : Bool) → (x && y) ≡ true → (x ≡ true) × (y ≡ true)
-    both true y e = (refl, e)
-    both false y e = absurd (true≢false (sym e))
-
     apart : (g ≢ f) ⊎ (j ≢ l) → (nat_eq b.frame f ≡ true) × (nat_eq b.layer l ≡ true) → (nat_eq b.frame g ≡ true) × (nat_eq b.layer j ≡ true) → ⊥
     apart (inl ne) x y = ne (sym (eqb-true b.frame g y.0) ∙ eqb-true b.frame f x.0)
     apart (inr ne) x y = ne (sym (eqb-true b.layer j y.1) ∙ eqb-true b.layer l x.1)
@@ -60,7 +59,7 @@ elsewhere g f j l b ne e = either (in_layer g j b)
 kept_same : (b : Binding) (bs more : List Binding) (g j : ℕ) → layer_of more g j ≡ layer_of bs g j → layer_of (b ∷ more) g j ≡ layer_of (b ∷ bs) g j
 kept_same b bs more g j h = ap (λ (x : Bindings). if in_layer g j b then (b.name, b.value) ∷ x else x) h
 
-skipped : (b : Binding) (bs : List Binding) (g j : ℕ) → in_layer g j b ≡ false → layer_of (b ∷ bs) g j ≡ layer_of bs g j
+pub skipped : (b : Binding) (bs : List Binding) (g j : ℕ) → in_layer g j b ≡ false → layer_of (b ∷ bs) g j ≡ layer_of bs g j
 skipped b bs g j e = ap (λ (t : Bool). if t then (b.name, b.value) ∷ layer_of bs g j else layer_of bs g j) e
 
 other_by : (p q r : Bool) (b : Binding) (g j : ℕ) (v : Val) (bs more : List Binding) → ((p && q) ≡ true → in_layer g j b ≡ false) → layer_of more g j ≡ layer_of bs g j → layer_of (if p && q && r then record b { value = v } ∷ bs else b ∷ more) g j ≡ layer_of (b ∷ bs) g j

@@ -1,6 +1,6 @@
 pub mod Puts
 pub mod Parts
-pub mod Once
+pub mod Cases
 pub mod Walked
 pub mod Layers
 pub mod Steps
@@ -12,4 +12,5 @@ pub mod Stacks
 pub mod Ends
 pub mod Rising
 pub mod BindingMap
+pub mod Alike
 pub mod FoundNames

@@ -10,14 +10,11 @@ use Rattle.tera_state.specs.declared.part.Part.{Part}
 use Rattle.tera_state.specs.declared.part.Part.TheVariants as part
 use Rattle.tera_state.specs.Bound.{is_beyond, IsUpTo, EndsBy}
 use Rattle.tera_state.specs.BindingMap.{rises_from, is_outside, comes_after, outside, last_layer, goes_on, ends_before, ends_in}
+use Rattle.tera_state.proofs.Cases.{both}
 use Rattle.tera_state.proofs.Ends.{up_to, same_up_to, without_after, without_frame_after}
 
 abbrev pub at : Binding → Layer
 at b = record { frame = b.frame; layer = b.layer }
-
-both : (p q : Bool) → (p && q) ≡ true → (p ≡ true) × (q ≡ true)
-both true q e = (refl, e)
-both false q e = absurd (true≢false (sym e))
 
 turned : (p : Bool) → not p ≡ true → p ≡ false
 turned true e = absurd (true≢false (sym e))

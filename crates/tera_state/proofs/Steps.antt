@@ -3,7 +3,7 @@ use Rattle.std.proofs.Common.{◌≡◌, ℕ, suc, Bool, true, false, List, [], 
 use Rattle.tera_errors.specs.Site.{Name}
 use Rattle.tera_values.specs.Val.{Val}
 use Rattle.tera_state.specs.Scope.{Bindings, Turn, Variables, Around, set_variable, set_global, open_turn, close_turn, nothing_set, Frame as FrameMeant}
-use Rattle.tera_state.specs.Bound.{layer_of, with_binding, without, without_frame}
+use Rattle.tera_state.specs.Bound.{layer_of, with_binding, without, without_frame, AreAlike}
 use Rattle.tera_state.specs.Opened.{turn_of, to_come, turns_of, InnermostGoesOn}
 use Rattle.tera_state.specs.Scopes.{begun, variables_at, variables_of, around_of, coming_of, GoesRound, TakesTurn, above_of, frame_of}
 use Rattle.tera_state.specs.declared.bindings.Binding.{Binding}
@@ -11,7 +11,15 @@ use Rattle.tera_state.specs.declared.loops.ForLoop.{ForLoop}
 use Rattle.tera_state.specs.declared.frame.Frame.{Frame}
 use Rattle.tera_state.specs.declared.frame.Standing.{Standing}
 use Rattle.tera_state.specs.declared.scopes.Scopes.{Scopes}
-use Rattle.tera_state.proofs.Layers.{set_law, open_law, close_law, bind_above, without_above, frame_above, frame_there, set_global_law}
+use Rattle.tera_state.proofs.Layers.{variables_same, above_same, set_law, open_law, close_law, bind_above, without_above, frame_above, frame_there, set_global_law}
+
+-- only what each layer binds is seen
+alike_variables : (s : Scopes) (bs cs : List Binding) → AreAlike bs cs → variables_of (record s { bindings = bs }) ≡ variables_of (record s { bindings = cs })
+alike_variables s bs cs same = variables_same cs bs (length s.below) s.frame (λ j. same (length s.below) j)
+
+alike_around : (s : Scopes) (bs cs : List Binding) → AreAlike bs cs → around_of (record s { bindings = bs }) ≡ around_of (record s { bindings = cs })
+alike_around s bs cs same =
+    ap (λ (us : List (FrameMeant × Variables)). record { frame = frame_of s.frame.standing s.below; above = us }) (above_same cs bs s.below (λ g j lt. same g j))
 
 module _ {E : Type 0} where
   on_ok : {P Q : Type 0} → (r : Result (Unit {0}) E) → (P → Q) → OnOk r P → OnOk r Q
@@ -22,16 +30,16 @@ module _ {E : Type 0} where
   either_way (Ok x) f g p q = f p
   either_way (Err e) f g p q = g q
 
-  pub sets : (s : Scopes) (bs : List Binding) (f l : ℕ) (n : Name) (v : Val) (r : Result (Unit {0}) E) → f ≡ length s.below → l ≡ length (s.frame.loops) → OnOk r (bs ≡ with_binding s.bindings f l n v) → OnOk r (variables_of (record s { bindings = bs }) ≡ set_variable n v (variables_of s))
-  sets s bs f l n v r ef el = on_ok r (λ e. ap (λ (x : List Binding). variables_of (record s { bindings = x })) (e ∙ ap₂ (λ (g k : ℕ). with_binding s.bindings g k n v) ef el) ∙ set_law s.bindings (length s.below) (s.frame.loops) n v)
+  pub sets : (s : Scopes) (bs : List Binding) (f l : ℕ) (n : Name) (v : Val) (r : Result (Unit {0}) E) → f ≡ length s.below → l ≡ length (s.frame.loops) → OnOk r (AreAlike bs (with_binding s.bindings f l n v)) → OnOk r (variables_of (record s { bindings = bs }) ≡ set_variable n v (variables_of s))
+  sets s bs f l n v r ef el = on_ok r (λ e. alike_variables s bs (with_binding s.bindings f l n v) e ∙ ap₂ (λ (g k : ℕ). variables_of (record s { bindings = with_binding s.bindings g k n v })) ef el ∙ set_law s.bindings (length s.below) (s.frame.loops) n v)
 
-  pub sets_global : (s : Scopes) (bs : List Binding) (f : ℕ) (n : Name) (v : Val) (r : Result (Unit {0}) E) → f ≡ length s.below → OnOk r (bs ≡ with_binding s.bindings f 0 n v) → OnOk r (variables_of (record s { bindings = bs }) ≡ set_global n v (variables_of s))
-  sets_global s bs f n v r ef = on_ok r (λ e. ap (λ (x : List Binding). variables_of (record s { bindings = x })) (e ∙ ap (λ (g : ℕ). with_binding s.bindings g 0 n v) ef) ∙ set_global_law s.bindings (length s.below) (s.frame.loops) n v)
+  pub sets_global : (s : Scopes) (bs : List Binding) (f : ℕ) (n : Name) (v : Val) (r : Result (Unit {0}) E) → f ≡ length s.below → OnOk r (AreAlike bs (with_binding s.bindings f 0 n v)) → OnOk r (variables_of (record s { bindings = bs }) ≡ set_global n v (variables_of s))
+  sets_global s bs f n v r ef = on_ok r (λ e. alike_variables s bs (with_binding s.bindings f 0 n v) e ∙ ap (λ (g : ℕ). variables_of (record s { bindings = with_binding s.bindings g 0 n v })) ef ∙ set_global_law s.bindings (length s.below) (s.frame.loops) n v)
 
-  pub sets_stays : (s : Scopes) (bs : List Binding) (f l : ℕ) (n : Name) (v : Val) (r : Result (Unit {0}) E) → f ≡ length s.below → OnOk r (bs ≡ with_binding s.bindings f l n v) → OnErr r (bs ≡ s.bindings) → around_of (record s { bindings = bs }) ≡ around_of s
+  pub sets_stays : (s : Scopes) (bs : List Binding) (f l : ℕ) (n : Name) (v : Val) (r : Result (Unit {0}) E) → f ≡ length s.below → OnOk r (AreAlike bs (with_binding s.bindings f l n v)) → OnErr r (bs ≡ s.bindings) → around_of (record s { bindings = bs }) ≡ around_of s
   sets_stays s bs f l n v r ef =
       either_way r
-      (λ e. ap (λ (x : List Binding). around_of (record s { bindings = x })) (e ∙ ap (λ (g : ℕ). with_binding s.bindings g l n v) ef) ∙ ap (λ (us : List (FrameMeant × Variables)). record { frame = frame_of s.frame.standing s.below; above = us }) (bind_above s.bindings s.below l n v))
+      (λ e. alike_around s bs (with_binding s.bindings f l n v) e ∙ ap (λ (g : ℕ). around_of (record s { bindings = with_binding s.bindings g l n v })) ef ∙ ap (λ (us : List (FrameMeant × Variables)). record { frame = frame_of s.frame.standing s.below; above = us }) (bind_above s.bindings s.below l n v))
       (λ e. ap (λ (x : List Binding). around_of (record s { bindings = x })) e)
 
 -- a layer of the frame that runs is taken out

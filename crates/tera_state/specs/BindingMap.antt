@@ -1,8 +1,8 @@
 -- Bindings as a map keeps them, and what is taken out of it at once.
-use Rattle.std.specs.Prelude.{ℕ, Bool, true, false, ◌&&◌, ◌||◌, not, nat_eq, nat_lt, List, [], ◌∷◌, filter, Option, Some, None}
+use Rattle.std.specs.Prelude.{◌≡◌, ◌≢◌, ℕ, Bool, true, false, ◌&&◌, ◌||◌, not, nat_eq, nat_lt, List, [], ◌∷◌, filter, Option, Some, None}
 use Rattle.std.specs.Option.{option_or}
 use Rattle.tera_values.specs.Val.{Val}
-use Rattle.tera_state.specs.Bound.{is_beyond}
+use Rattle.tera_state.specs.Bound.{is_beyond, layer_of}
 use Rattle.tera_state.specs.declared.bindings.Binding.{Binding}
 use Rattle.tera_state.specs.declared.bindings.Layer.{Layer}
 use Rattle.tera_state.specs.declared.layer_name.LayerName.{LayerName}
@@ -57,3 +57,8 @@ ends_before rises p (Some at) = rises && comes_after p at.frame at.layer
 abbrev pub ends_in : Part → Option Layer → Bool
 ends_in p None = false
 ends_in p (Some at) = not (is_outside p at.frame at.layer)
+
+-- the first bind outside of all loops alone, the second in turns alone
+abbrev pub AreApart : List Binding → List Binding → Type 0
+AreApart bodies turns =
+    ((f l : ℕ) → l ≢ 0 → layer_of bodies f l ≡ []) × ((f : ℕ) → layer_of turns f 0 ≡ [])

@@ -31,17 +31,16 @@ without bs f l = filter (λ b. not (nat_eq b.frame f) || not (nat_eq b.layer l))
 abbrev pub without_frame : List Binding → ℕ → List Binding
 without_frame bs f = filter (λ b. not (nat_eq b.frame f)) bs
 
--- a name stands at most once in a layer
-abbrev pub IsOnce : List Binding → Type 0
-IsOnce [] = Unit {0}
-IsOnce (b ∷ bs) = (value_in bs b.frame b.layer b.name ≡ None) × IsOnce bs
-
 -- what the layer binds
 abbrev pub layer_of : List Binding → ℕ → ℕ → Bindings
 layer_of [] f l = []
 layer_of (b ∷ bs) f l =
     if nat_eq b.frame f && nat_eq b.layer l then (b.name, b.value) ∷ layer_of bs f l
     else layer_of bs f l
+
+-- each layer binds the same, in whatever order the layers stand
+abbrev pub AreAlike : List Binding → List Binding → Type 0
+AreAlike bs cs = (f l : ℕ) → layer_of bs f l ≡ layer_of cs f l
 
 -- layer l of frame f comes after layer j of frame g
 abbrev pub is_beyond : ℕ → ℕ → ℕ → ℕ → Bool

@@ -1,10 +1,10 @@
-// All names that a rendering has set, as one list.
+// All names that a rendering has set, to contracts one list.
 ghost use Rattle.std.specs.Prelude.{◌≡◌, ◌↔◌, [], ◌++◌, None, IsTrue, OnOk, OnErr, IfErr, option_copied};
 ghost use Rattle.tera_errors.specs.Prelude.{Lacks};
 ghost use Rattle.tera_values.specs.Prelude.{put_all};
-ghost use Rattle.tera_state.specs.Bound.{value_in, with_binding, without, without_frame, position_from, layer_of, is_beyond, end_with, end_without};
+ghost use Rattle.tera_state.specs.Bound.{value_in, with_binding, without, without_frame, position_from, layer_of, is_beyond, end_with, end_without, AreAlike};
 
-use crate::binding_map::BindingMap;
+use crate::binding_maps::BindingMaps;
 use crate::part::Part;
 use std::alloc::{AllocError, Global};
 use std::marker::Model;
@@ -19,12 +19,12 @@ pub struct Binding {
     pub value: Value,
 }
 
-/// The bindings of all frames: a few in a list, and those behind them in a map. A name stands at most once in a layer of
-/// a frame. None stands beyond the end that is kept, so that an empty turn is known to bind nothing without a search.
+/// The bindings of all frames: a few in a list, and all others in maps. None stands beyond the end that is kept, so that an
+/// empty turn is known to bind nothing without a search.
 #[derive(Drop)]
 pub struct Bindings {
     few: Vec<Binding>,
-    others: BindingMap,
+    others: BindingMaps,
     end: Layer,
 }
 
@@ -42,7 +42,7 @@ impl Model for Bindings {
     ghost use Rattle.std.specs.Prelude.{List, ◌++◌};
     ghost use Rattle.std.specs.Coded.{codes};
     ghost use Rattle.tera_values.specs.Coding.{val_coding};
-    ghost use Rattle.tera_state.specs.Bound.{IsOnce, EndsBy};
+    ghost use Rattle.tera_state.specs.Bound.{EndsBy};
     ghost use Rattle.tera_state.specs.declared.bindings.Binding.{Binding as Datum};
 
     ghost Value = { List Datum };
@@ -51,7 +51,7 @@ impl Model for Bindings {
 
     ghost view = { λ b. b.few.items ++ b.others };
 
-    ghost invariant = { λ b. IsOnce (b.few.items ++ b.others) × EndsBy (b.few.items ++ b.others) b.end.frame b.end.layer };
+    ghost invariant = { λ b. EndsBy (b.few.items ++ b.others) b.end.frame b.end.layer };
 }
 
 impl Bindings {
@@ -61,7 +61,7 @@ impl Bindings {
     {
         Bindings {
             few: Vec::new(alloc),
-            others: BindingMap::new(alloc),
+            others: BindingMaps::new(alloc),
             end: Layer { frame: 0, layer: 0 },
         }
     }
@@ -125,7 +125,7 @@ impl Bindings {
         name: Name,
         value: Value,
     ) -> Result<(), AllocError>
-        ensures ok { OnOk result (self.new ≡ with_binding self.old frame layer name value) }
+        ensures ok { OnOk result (AreAlike self.new (with_binding self.old frame layer name value)) }
         ensures err { OnErr result (self.new ≡ self.old) }
     {
         self.end = end_with(frame, layer, self.end);
@@ -172,8 +172,8 @@ impl Bindings {
     {
         self.few
             .retain(|b: &Binding| b.frame != frame || b.layer != layer);
-        self.others.clear(Part::Layer(Layer { frame, layer }));
         self.end = end_without(frame, layer, self.end);
+        self.others.clear_layer(frame, layer);
     }
 
     /// Takes out what a frame binds.
@@ -192,12 +192,12 @@ impl Bindings {
 #[inline(always)]
 fn put_behind(
     few: &mut Vec<Binding>,
-    others: &mut BindingMap,
+    others: &mut BindingMaps,
     binding: Binding,
 ) -> Result<(), AllocError>
     ensures ok { OnOk result (position_from 0 few.old.items binding.frame binding.layer binding.name ≡ None
-        → few.new.items ++ others.new ≡ with_binding (few.old.items ++ others.old)
-        binding.frame binding.layer binding.name binding.value) }
+        → AreAlike (few.new.items ++ others.new) (with_binding (few.old.items ++ others.old)
+        binding.frame binding.layer binding.name binding.value)) }
     ensures err { OnErr result (few.new.items ++ others.new ≡ few.old.items ++ others.old) }
 {
     if few.len() < FEW && others.is_empty() {

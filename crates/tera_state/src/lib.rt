@@ -2,6 +2,7 @@
 #![tactic(auto)]
 
 mod binding_map;
+mod binding_maps;
 pub mod bindings;
 pub mod contexts;
 pub mod found;

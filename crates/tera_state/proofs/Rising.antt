@@ -9,12 +9,9 @@ use Rattle.tera_state.specs.declared.bindings.Layer.{Layer}
 use Rattle.tera_state.specs.declared.part.Part.{Part}
 use Rattle.tera_state.specs.declared.part.Part.TheVariants as part
 use Rattle.tera_state.specs.Bound.{is_beyond, IsUpTo, EndsBy}
-use Rattle.tera_state.specs.BindingMap.{rises_from, is_outside, comes_after, outside, last_layer, goes_on, ends_before, ends_in}
+use Rattle.tera_state.specs.BindingMap.{layer_at, rises_from, is_outside, comes_after, outside, last_layer, goes_on, ends_before, ends_in}
 use Rattle.tera_state.proofs.Cases.{both}
 use Rattle.tera_state.proofs.Ends.{up_to, same_up_to, without_after, without_frame_after}
-
-abbrev pub at : Binding → Layer
-at b = record { frame = b.frame; layer = b.layer }
 
 turned : (p : Bool) → not p ≡ true → p ≡ false
 turned true e = absurd (true≢false (sym e))
@@ -25,9 +22,9 @@ some_or None x y = refl
 some_or (Some z) x y = refl
 
 -- the last binding
-pub last-append : (cs : List Binding) (b : Binding) → last_layer (cs ++ b ∷ []) ≡ Some (at b)
+pub last-append : (cs : List Binding) (b : Binding) → last_layer (cs ++ b ∷ []) ≡ Some (layer_at b)
 last-append [] b = refl
-last-append (c ∷ cs) b = ap (λ (o : Option Layer). option_or o (Some (at c))) (last-append cs b)
+last-append (c ∷ cs) b = ap (λ (o : Option Layer). option_or o (Some (layer_at c))) (last-append cs b)
 
 abbrev goes_beyond : Option Layer → Binding → Bool
 goes_beyond None b = false
@@ -39,7 +36,7 @@ longer [] f l b h e = ap (λ (t : Bool). not t && true) e
 longer (c ∷ cs) f l b h e =
     let parts = both (not (is_beyond f l c.frame c.layer)) (rises_from c.frame c.layer cs) h in
     ap₂ (λ (s t : Bool). s && t) parts.0
-    (longer cs c.frame c.layer b parts.1 (ap (λ (o : Option Layer). goes_beyond o b) (sym (some_or (last_layer cs) (at c) (Some (record { frame = f; layer = l })))) ∙ e))
+    (longer cs c.frame c.layer b parts.1 (ap (λ (o : Option Layer). goes_beyond o b) (sym (some_or (last_layer cs) (layer_at c) (Some (record { frame = f; layer = l })))) ∙ e))
 
 none_lower : (f l : ℕ) → is_beyond 0 0 f l ≡ false
 none_lower f l =
@@ -53,7 +50,7 @@ none_lower f l =
 
 on_by : (o : Option Layer) (rises : Bool) (bs : List Binding) (b : Binding) → last_layer bs ≡ o → goes_on rises o b.frame b.layer ≡ true → (rises ≡ true → rises_from 0 0 bs ≡ true) → rises_from 0 0 (bs ++ b ∷ []) ≡ true
 on_by None rises [] b e g h = ap (λ (t : Bool). not t && true) (none_lower b.frame b.layer)
-on_by None rises (c ∷ cs) b e g h = absurd (some_last (last_layer cs) (at c) e)
+on_by None rises (c ∷ cs) b e g h = absurd (some_last (last_layer cs) (layer_at c) e)
   where
     some_last : (o : Option Layer) (x : Layer) → option_or o (Some x) ≡ None → ⊥
     some_last None x e = cc
@@ -82,12 +79,12 @@ through f l g j h k (inr x) (inr y) = let a = x.1 in let b = y.1 in let le : l �
 ends_last : (bs : List Binding) (f l : ℕ) (z : Layer) → rises_from f l bs ≡ true → last_layer bs ≡ Some z → EndsBy bs z.frame z.layer
 ends_last [] f l z h e = tt
 ends_last (b ∷ []) f l z h e =
-    let same : at b ≡ z = cc in
+    let same : layer_at b ≡ z = cc in
     (subst (λ (y : Layer). IsUpTo b.frame b.layer y.frame y.layer) same (same_up_to b.frame b.layer), tt)
 ends_last (b ∷ c ∷ cs) f l z h e =
     let parts = both (not (is_beyond f l b.frame b.layer)) (rises_from b.frame b.layer (c ∷ cs)) h in
     let next = both (not (is_beyond b.frame b.layer c.frame c.layer)) (rises_from c.frame c.layer cs) parts.1 in
-    let rest = ends_last (c ∷ cs) b.frame b.layer z parts.1 (sym (some_or (last_layer cs) (at c) (Some (at b))) ∙ e) in
+    let rest = ends_last (c ∷ cs) b.frame b.layer z parts.1 (sym (some_or (last_layer cs) (layer_at c) (Some (layer_at b))) ∙ e) in
     (through b.frame b.layer c.frame c.layer z.frame z.layer (up_to b.frame b.layer c.frame c.layer (turned (is_beyond b.frame b.layer c.frame c.layer) next.0)) rest.0, rest)
 
 after_all : (p : Part) (bs : List Binding) (z : Layer) → EndsBy bs z.frame z.layer → comes_after p z.frame z.layer ≡ true → outside p bs ≡ bs
@@ -96,7 +93,7 @@ after_all (part.Frame frame) bs z h e = without_frame_after bs frame z.frame z.l
 
 before_by : (o : Option Layer) (rises : Bool) (p : Part) (bs : List Binding) → last_layer bs ≡ o → ends_before rises p o ≡ true → (rises ≡ true → rises_from 0 0 bs ≡ true) → outside p bs ≡ bs
 before_by None rises p [] e g h = refl
-before_by None rises p (c ∷ cs) e g h = absurd (some_last (last_layer cs) (at c) e)
+before_by None rises p (c ∷ cs) e g h = absurd (some_last (last_layer cs) (layer_at c) e)
   where
     some_last : (o : Option Layer) (x : Layer) → option_or o (Some x) ≡ None → ⊥
     some_last None x e = cc

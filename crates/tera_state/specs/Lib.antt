@@ -5,8 +5,8 @@ pub mod Contexts
 pub mod Items
 pub mod Scope
 pub mod Bound
-pub mod BindingMap
 pub mod LayerNames
+pub mod BindingMap
 pub mod Found
 pub mod Opened
 pub mod Lending

@@ -258,7 +258,7 @@ fn find<'a>(
     None
 }
 
-fn position(items: &[Binding], frame: usize, layer: usize, name: &Sought<'_>) -> Option<usize>
+pub(crate) fn position(items: &[Binding], frame: usize, layer: usize, name: &Sought<'_>) -> Option<usize>
     ensures { result ≡ position_from 0 items.now frame layer name.now }
 {
     for (at, b) in items.iter().enumerate() {
@@ -269,7 +269,7 @@ fn position(items: &[Binding], frame: usize, layer: usize, name: &Sought<'_>) ->
     None
 }
 
-fn put_layer(items: &[Binding], frame: usize, layer: usize, names: &mut Context) -> TeraResult<()>
+pub(crate) fn put_layer(items: &[Binding], frame: usize, layer: usize, names: &mut Context) -> TeraResult<()>
     ensures ok { OnOk result (names.new ≡ put_all (layer_of items.now frame layer) names.old) }
     ensures lacks { IfErr result Lacks }
 {

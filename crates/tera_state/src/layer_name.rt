@@ -1,48 +1,42 @@
 // What a binding is found by where there are many.
-ghost use Rattle.std.specs.Prelude.{◌≡◌, ◌&&◌, nat_eq, bytes_eq};
-ghost use Rattle.tera_state.specs.BindingMap.{layer_at};
-ghost use Rattle.tera_state.specs.LayerNames.{same_hash, same_names};
+ghost use Rattle.std.specs.Prelude.{◌≡◌};
+ghost use Rattle.std.specs.BTreeMap.Comparable.{le_lt_trans};
+ghost use Rattle.tera_state.specs.LayerNames.{key, layer_name_cmp, layer_names_total};
 
-use crate::bindings::Layer;
-use indexmap::Equivalent;
+use std::cmp::Ordering;
+use std::collections::btree_map::Comparable;
 use tera_values::{Name, Sought};
 
-/// A name in a layer of a frame. It is hashed by the hash that the name has.
-#[derive(Drop, PartialEq, Eq, Hash)]
+/// A name in a layer of a frame. They stand by frame, by layer and then in byte order of their names.
+#[derive(Drop, PartialEq, Eq, PartialOrd, Ord)]
 pub struct LayerName {
     pub frame: usize,
     pub layer: usize,
     pub name: Name,
 }
 
-impl LayerName {
-    /// Where the name is bound.
-    pub fn at(&self) -> Layer
-        ensures { result ≡ layer_at self.now }
-    {
-        Layer {
-            frame: self.frame,
-            layer: self.layer,
-        }
-    }
-}
-
 /// The same for a name that is looked for, whose text lies elsewhere. Takes no memory.
-#[derive(Clone, Copy, PartialEq, Eq, Hash)]
+#[derive(Clone, Copy)]
 pub struct SoughtLayerName<'s, 'a> {
     pub frame: usize,
     pub layer: usize,
     pub name: &'s Sought<'a>,
 }
 
-impl<'s, 'a> Equivalent<LayerName> for SoughtLayerName<'s, 'a> {
-    ghost equivalent = { λ q k. nat_eq q.frame k.frame && (nat_eq q.layer k.layer && bytes_eq q.name.now k.name) };
+impl<'s, 'a> Comparable<LayerName> for SoughtLayerName<'s, 'a> {
+    ghost compare = { λ q. layer_name_cmp (key q.frame q.layer q.name.now) };
 
-    ghost respects_hash = { λ q k. same_hash q.frame k.frame q.layer k.layer q.name.now k.name };
+    ghost respects_cmp = { λ q. layer_names_total.congr (key q.frame q.layer q.name.now) };
 
-    ghost respects_eq = { λ q x y. same_names q.frame q.layer q.name.now x.frame x.layer x.name y.frame y.layer y.name };
+    ghost below_greater = { λ q. le_lt_trans layer_names_total (key q.frame q.layer q.name.now) };
 
-    fn equivalent(&self, key: &LayerName) -> bool {
-        self.frame == key.frame && self.layer == key.layer && self.name.is(&key.name)
+    fn compare(&self, key: &LayerName) -> Ordering {
+        match self.frame.cmp(&key.frame) {
+            Ordering::Equal => match self.layer.cmp(&key.layer) {
+                Ordering::Equal => self.name.as_str().cmp(key.name.as_str()),
+                layers => layers,
+            },
+            frames => frames,
+        }
     }
 }

@@ -1,5 +1,5 @@
 -- Where the bindings of a map stand.
-use Rattle.std.proofs.Common.{◌≡◌, ℕ, zero, suc, ◌+◌, ◌-◌, ◌<◌, arith, slice_get, slice_index_or, List, [], ◌∷◌, ◌++◌, Bool, true, false, ◌&&◌, not, cond, if◌then◌else◌, Option, Some, None, refl, sym, ap, ap₂, ◌∙◌, subst, true≢false, append-nil, length}
+use Rattle.std.proofs.Common.{Result, Ok, Err, OnOk, OnErr, ◌≡◌, ℕ, zero, suc, ◌+◌, ◌-◌, ◌<◌, arith, slice_get, slice_index_or, List, [], ◌∷◌, ◌++◌, Bool, true, false, ◌&&◌, not, cond, if◌then◌else◌, Option, Some, None, refl, sym, ap, ap₂, ◌∙◌, subst, true≢false, append-nil, length}
 use Rattle.std.specs.Map.{lookup}
 use Rattle.std.proofs.lemmas.Bool.{eqb-true}
 use Rattle.std.proofs.lemmas.Map.Text.{is_eq-slice_cmp}
@@ -124,6 +124,11 @@ ordered-same is_ordered bs cs old new h e u t =
     let was = h t in
     subst (λ (ds : List Binding). IsOrdered ds new) (sym e)
     (was.0, was.1, λ q. ap (lookup (is_at (layer_name_cmp q))) u ∙ was.2 q)
+
+module _ {E : Type 0} where
+  pub ordered-placed : (r : Result (Unit {0}) E) (is_ordered : Bool) (bs cs : List Binding) (b : Binding) (old new : Places) → OnOk r (cs ≡ bs ++ b ∷ []) → OnOk r (Updates layer_name_cmp old new (key_of b) (Some (length bs))) → OnErr r (cs ≡ bs) → OnErr r (IsUnchanged old new) → (is_ordered ≡ true → IsOrdered bs old) → goes_on is_ordered (last_layer bs) b.frame b.layer ≡ true → place_of 0 bs b ≡ None → is_ordered ≡ true → IsOrdered cs new
+  ordered-placed (Ok x) is_ordered bs cs b old new e u f v h g none t = subst (λ (ds : List Binding). IsOrdered ds new) (sym e) (ordered-longer is_ordered bs b old new h g none u)
+  ordered-placed (Err x) is_ordered bs cs b old new e u f v h g none t = ordered-same is_ordered bs cs old new h f v t
 
 -- one less at the end
 untold_by : (t : Bool) (i : ℕ) (o g : Option ℕ) → g ≡ option_or o (if t then Some i else None) → (t ≡ true → o ≡ None) → cond t None g ≡ o

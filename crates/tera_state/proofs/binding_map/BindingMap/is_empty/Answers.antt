@@ -1,8 +1,11 @@
-use Rattle.std.proofs.Common.{sym, ◌∙◌}
-use Rattle.tera_state.proofs.BindingMap.{none_left, none_bound}
+use Rattle.std.proofs.Common.{◌≡◌, length, ap, sym, ◌∙◌, arith}
+use Rattle.std.proofs.lemmas.Bool.Decides.{nat_tests}
+use Rattle.std.proofs.lemmas.List.{nil_from_length}
 use Rattle.tera_state.proofs.binding_map.BindingMap.is_empty.Goals as goal
 
 pub returns : goal.returns
 returns c =
-    let es = c.self.inside.values.entries in
-    (λ t. sym c.self.view_is ∙ none_bound es (c.is_empty.ensures.0 t), λ e. c.is_empty.ensures.1 (none_left es (c.self.view_is ∙ e)))
+    let items = c.self.inside.items.items in (
+      λ t. let none : length items ≡ 0 = grind (arith, nat_tests, c.is_empty.ensures, t, c.self.inside.items.ok) in sym c.self.view_is ∙ nil_from_length items none,
+      λ e. let none : length items ≡ 0 = ap length (c.self.view_is ∙ e) in grind (arith, nat_tests, c.is_empty.ensures, none, c.self.inside.items.ok),
+    )

@@ -1,30 +1,45 @@
-use Rattle.std.proofs.Common.{sym, ap, ◌∙◌}
-use Rattle.tera_state.specs.declared.layer_name.LayerName.{LayerName}
-use Rattle.tera_state.specs.Bound.{with_binding}
-use Rattle.tera_state.specs.BindingMap.{bindings}
-use Rattle.tera_state.proofs.BindingMap.{insert-is, put_new, put_there}
+use Rattle.std.proofs.Common.{rules, ◌≡◌, ◌∙◌, ap, sym, Some, arith, ◌+◌}
+use Rattle.tera_state.specs.Bound.{with_binding, position_from}
+use Rattle.tera_state.proofs.Puts.{at_position, bind-at, bind-new}
+use Rattle.tera_state.proofs.BindingMap.{ordered-in_place}
 use Rattle.tera_state.proofs.binding_map.BindingMap.put.Goals as goal
 
-pub invariant_of-self-in-Some : goal.invariant_of-self-in-Some
-invariant_of-self-in-Some c =
-    let b = c.args.binding in
-    let k : LayerName = record { frame = b.frame; layer = b.layer; name = b.name } in
-    put_there c.self.inside.rises c.self.inside.values.entries c.insert.new.self.entries k b.value c.in-Some.old c.in_ok-old.ensures.entries (sym c.in-Some.is ∙ c.in_ok-old.ensures.old) c.self.invariant
+pub index_mut-requires : goal.index_mut-requires
+index_mut-requires c =
+    let f = c.args.binding.frame in
+    let l = c.args.binding.layer in
+    let n = c.args.binding.name in
+    let h = ap (λ bs. position_from 0 bs f l n) c.self.view_is ∙ ap (λ m. position_from 0 c.args.self.now f l m) (sym c.sought.ensures) ∙ sym c.position.ensures ∙ c.in-Some.is in
+    let x = at_position 0 c.self.inside.items.items f l n c.in-Some.at h in
+    search (rules, x.1)
 
-pub invariant_of-self-in-None : goal.invariant_of-self-in-None
-invariant_of-self-in-None c =
-    let b = c.args.binding in
-    let k : LayerName = record { frame = b.frame; layer = b.layer; name = b.name } in
-    λ g. put_new c.self.inside.rises c.self.inside.values.entries c.insert.new.self.entries k b.value c.in_ok-old.ensures.entries (sym c.in-None.is ∙ c.in_ok-old.ensures.old) c.self.invariant (sym c.goes_on-rises.ensures ∙ g)
+pub invariant_of-self : goal.invariant_of-self
+invariant_of-self c =
+    let items = c.self.inside.items.items in
+    let f = c.args.binding.frame in
+    let l = c.args.binding.layer in
+    let n = c.args.binding.name in
+    let h = ap (λ bs. position_from 0 bs f l n) c.self.view_is ∙ ap (λ m. position_from 0 c.args.self.now f l m) (sym c.sought.ensures) ∙ sym c.position.ensures ∙ c.in-Some.is in
+    let m : c.in-Some.at ≡ 0 + c.in-Some.at = omega arith in
+    λ t. ordered-in_place items _ f l n c.args.binding.value c.in-Some.at c.self.inside.places h
+    (bind-at 0 c.in-Some.at items f l n c.args.binding.value c.index_mut.result.now (h ∙ ap Some m) c.index_mut.ensures.value)
+    (c.self.invariant t)
 
 pub returns-in-Some-clause-ok : goal.returns-in-Some-clause-ok
 returns-in-Some-clause-ok c =
-    let b = c.args.binding in
-    let k : LayerName = record { frame = b.frame; layer = b.layer; name = b.name } in
-    ap bindings c.in_ok-old.ensures.entries ∙ insert-is c.self.inside.values.entries k b.value ∙ ap (λ bs. with_binding bs b.frame b.layer b.name b.value) c.self.view_is
+    let items = c.self.inside.items.items in
+    let f = c.args.binding.frame in
+    let l = c.args.binding.layer in
+    let n = c.args.binding.name in
+    let h = ap (λ bs. position_from 0 bs f l n) c.self.view_is ∙ ap (λ m. position_from 0 c.args.self.now f l m) (sym c.sought.ensures) ∙ sym c.position.ensures ∙ c.in-Some.is in
+    let m : c.in-Some.at ≡ 0 + c.in-Some.at = omega arith in
+    bind-at 0 c.in-Some.at items f l n c.args.binding.value c.index_mut.result.now (h ∙ ap Some m) c.index_mut.ensures.value
+    ∙ ap (λ bs. with_binding bs f l n c.args.binding.value) c.self.view_is
 
-pub returns-in-None-clause-ok : goal.returns-in-None-clause-ok
-returns-in-None-clause-ok c =
-    let b = c.args.binding in
-    let k : LayerName = record { frame = b.frame; layer = b.layer; name = b.name } in
-    ap bindings c.in_ok-old.ensures.entries ∙ insert-is c.self.inside.values.entries k b.value ∙ ap (λ bs. with_binding bs b.frame b.layer b.name b.value) c.self.view_is
+pub returns-in_ok-push-in-None-clause-ok : goal.returns-in_ok-push-in-None-clause-ok
+returns-in_ok-push-in-None-clause-ok c =
+    let f = c.args.binding.frame in
+    let l = c.args.binding.layer in
+    let n = c.args.binding.name in
+    let none = ap (λ m. position_from 0 c.args.self.now f l m) (sym c.sought.ensures) ∙ sym c.position.ensures ∙ c.in-None.is in
+    c.in_ok-push-in-None.ensures.ok ∙ bind-new 0 c.args.self.now f l n c.args.binding.value none

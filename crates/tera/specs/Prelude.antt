@@ -6,5 +6,5 @@ pub use Rattle.tera.specs.Configuring.{Configures}
 pub use Rattle.tera_errors.specs.Kind.{fault_of}
 pub use Rattle.tera_errors.specs.Answer.{Gives, GivesOneOf, Lacks}
 pub use Rattle.tera_values.specs.Val.{text}
-pub use Rattle.tera_values.specs.Named.{at_name, put}
+pub use Rattle.tera_values.specs.Named.{at_name, put, with_names, without_names}
 pub use Rattle.tera_registry.specs.Batch.{Adds, ConfiguresOneOf, pairs_of}

@@ -136,6 +136,7 @@ impl ComponentArg {
     }
 
     /// The value that the parameter takes in a call of this component; a `Message` where there is none, or one of another type.
+    #[inline(always)]
     pub(crate) fn value<C: Implicits>(
         &self,
         alloc: Global,

@@ -127,6 +127,7 @@ impl ComponentDefinition {
     }
 
     // The same of all that is given. A call mostly gives what its parameters take: then no map of it is made.
+    #[inline(always)]
     fn others(&self, alloc: Global, given: &Entries<'_>) -> TeraResult<Map>
         ensures { Gives (λ m. m) result
             (Ok (text_keys (left_over self.now (named_arguments given.now)))) }
@@ -179,29 +180,8 @@ impl ComponentDefinition {
         Ok(())
     }
 
-    // The body, and the values of the parameters at their names.
-    fn bound<C: Implicits>(
-        &self,
-        alloc: Global,
-        given: &Entries<'_>,
-        caller: &C,
-        body: Option<Value>,
-    ) -> TeraResult<Kwargs>
-        ensures { Gives (λ c. c) result
-            (or_message (with_formals (C.implicit caller.now)
-            (named_arguments given.now) self.now.formals (with_body body []))) }
-    {
-        if self.arguments.len() <= FEW {
-            let mut context = begun(alloc, self.arguments.len(), body)?;
-            self.put_arguments(alloc, given, caller, &mut context)?;
-            return Ok(context);
-        }
-        let mut context = map_begun(alloc, body)?;
-        self.map_arguments(alloc, given, caller, &mut context)?;
-        Kwargs::of_map(alloc, context)
-    }
-
     // Puts what no parameter takes at its name, and refuses it where it has none.
+    #[inline(always)]
     fn put_others(&self, alloc: Global, others: Map, context: &mut Kwargs) -> TeraResult<()>
         ensures { (over : List (Name × Val)) → others ≡ text_keys over →
             Gives (λ _. context.new) result
@@ -219,6 +199,25 @@ impl ComponentDefinition {
         }
     }
 
+    // What `bind` answers where the parameters are many. Apart, so that a call of few pays nothing for it.
+    #[inline(never)]
+    fn bind_many<C: Implicits>(
+        &self,
+        alloc: Global,
+        given: &Entries<'_>,
+        caller: &C,
+        body: Option<Value>,
+    ) -> TeraResult<Kwargs>
+        ensures { Binds self.now (named_arguments given.now) body (C.implicit caller.now) result }
+    {
+        let others = self.others(alloc, given)?;
+        let mut ordered = map_begun(alloc, body)?;
+        self.map_arguments(alloc, given, caller, &mut ordered)?;
+        let mut context = Kwargs::of_map(alloc, ordered)?;
+        self.put_others(alloc, others, &mut context)?;
+        Ok(context)
+    }
+
     /// What the body of a call with these arguments reads; a `Message` where they do not fit. A key that is no text names no
     /// argument. Implicit parameters are looked up in the caller.
     pub fn bind<C: Implicits>(
@@ -230,8 +229,12 @@ impl ComponentDefinition {
     ) -> TeraResult<Kwargs>
         ensures { Binds self.now (named_arguments given.now) body (C.implicit caller.now) result }
     {
+        if self.arguments.len() > FEW {
+            return self.bind_many(alloc, given, caller, body);
+        }
         let others = self.others(alloc, given)?;
-        let mut context = self.bound(alloc, given, caller, body)?;
+        let mut context = begun(alloc, self.arguments.len(), body)?;
+        self.put_arguments(alloc, given, caller, &mut context)?;
         self.put_others(alloc, others, &mut context)?;
         Ok(context)
     }

@@ -1,6 +1,5 @@
 pub mod Splits
 pub mod Fields
-pub mod Keeping
 pub mod Bodies
 pub mod Scripts
 pub mod Passages

@@ -8,7 +8,6 @@ pub mod Script
 pub mod Session
 pub mod Run
 pub mod Body
-pub mod Entries
 pub mod Preview
 pub mod Found
 pub mod Seen

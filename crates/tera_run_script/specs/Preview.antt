@@ -3,14 +3,13 @@ use Rattle.std.specs.Prelude.{◌≡◌, Bool, List, [], map, ◌++◌, codes, O
 use Rattle.std.specs.List.{join_by}
 use Rattle.tera.specs.Fault.{Fault}
 use Rattle.tera.specs.Site.{Name, Text}
-use Rattle.tera.specs.Named.{Named}
+use Rattle.tera.specs.Named.{Named, with_names}
 use Rattle.tera.specs.Val.{Val}
 use Rattle.tera.specs.Definition.{Info}
 use Rattle.tera.specs.Components.{AreComponentNames}
 use Rattle.tera.specs.Registry.{Registry}
 use Rattle.tera.specs.Rendering.{render_component}
 use Rattle.tera.specs.Registry.{info_at}
-use Rattle.tera_run_script.specs.Entries.{with_names}
 use Rattle.tera_run_script.specs.Reply.{fault_line}
 
 -- the entries that the parameters of this component name

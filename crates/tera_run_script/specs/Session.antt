@@ -4,14 +4,13 @@ use Rattle.std.specs.List.{flat_map}
 use Rattle.tera.specs.Answer.{SaysOneOf}
 use Rattle.tera.specs.Fault.{Fault}
 use Rattle.tera.specs.Site.{Name, Text}
-use Rattle.tera.specs.Named.{Named, put}
+use Rattle.tera.specs.Named.{Named, put, with_names, without_names}
 use Rattle.tera.specs.Val.{Val}
 use Rattle.tera.specs.Registry.{Registry}
 use Rattle.tera.specs.Batch.{Adds}
 use Rattle.tera.specs.Configuring.{with_prefixes, with_suffixes}
 use Rattle.tera.specs.Rendering.{ByName, BlockByName, ComponentByName, OneOff}
 use Rattle.tera_run_script.specs.Act.{Act, put_value, render_text, join_batch, add_batch, set_suffixes, set_prefixes, render_named, render_block_named, render_component_named, preview_components}
-use Rattle.tera_run_script.specs.Entries.{with_names, without_names}
 use Rattle.tera_run_script.specs.Preview.{Previews}
 use Rattle.tera_run_script.specs.Reply.{Replied, done, says, refuses, line_of}
 use Rattle.tera_run_script.specs.Script.{script_of}

@@ -1,14 +1,12 @@
 // Commands on an engine.
 ghost use Rattle.std.specs.Prelude.{◌≡◌, None, string_bytes, IfOk, IfErr, OnOk, OnErr, ◌++◌, ◌∷◌, []};
-ghost use Rattle.tera.specs.Prelude.{texts_of, registry_of, ComponentByName, GivesOneOf, Lacks, Adds, ConfiguresOneOf, pairs_of, put, text};
+ghost use Rattle.tera.specs.Prelude.{texts_of, registry_of, ComponentByName, GivesOneOf, Lacks, Adds, ConfiguresOneOf, pairs_of, put, text, with_names, without_names};
 ghost use Rattle.tera_run_script.specs.Act.{act_of, acts_of};
-ghost use Rattle.tera_run_script.specs.Entries.{with_names, without_names};
 ghost use Rattle.tera_run_script.specs.Reply.{reply_seen, replies_seen, done_seen, rendered_seen};
 ghost use Rattle.tera_run_script.specs.Seen.{session_of};
 ghost use Rattle.tera_run_script.specs.Session.{Answers, Leads};
 
 use crate::command::Command;
-use crate::entries::entries;
 use crate::preview::preview;
 use crate::reply::Reply;
 use std::alloc::Global;
@@ -121,8 +119,8 @@ fn component<O: Objects>(
         (without_names (texts_of implicits.now) context.now)
         (with_names (texts_of implicits.now) context.now) None autoescape) }
 {
-    let args = entries(context, false, implicits)?;
-    let implicits = entries(context, true, implicits)?;
+    let args = context.try_clone_without(implicits)?;
+    let implicits = context.try_clone_with(implicits)?;
     engine.render_component(name, &args, &implicits, None, autoescape)
 }
 

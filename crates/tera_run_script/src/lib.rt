@@ -3,7 +3,6 @@
 
 mod body;
 pub mod command;
-mod entries;
 mod execute;
 mod lines;
 pub mod outcome;

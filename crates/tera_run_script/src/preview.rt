@@ -3,7 +3,6 @@ ghost use Rattle.std.specs.Prelude.{◌≡◌, Ok, IfErr, IfOk, string_bytes, ma
 ghost use Rattle.tera.specs.Prelude.{texts_of, registry_of, info_at, Gives, GivesOneOf, Lacks};
 ghost use Rattle.tera_run_script.specs.Preview.{arguments_for, shown, Previews};
 
-use crate::entries::entries;
 use crate::reply::push_fault;
 use std::alloc::Global;
 use tera::{ComponentInfo, Context, Objects, TeraOver, TeraResult};
@@ -34,7 +33,7 @@ fn arguments<O: Objects>(
     match engine.get_component_definition(name)? {
         Some(info) => {
             let names = parameters(alloc, &info)?;
-            entries(context, true, names.as_slice())
+            context.try_clone_with(names.as_slice())
         }
         None => Ok(Context::new(alloc)),
     }

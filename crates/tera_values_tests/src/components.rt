@@ -5,7 +5,7 @@ use std::alloc::Global;
 use tera_components::{ComponentDefinition, ComponentInfo};
 use tera_state::{Implicits, Scopes, State};
 use tera_syntax_tree::{ArgumentType, Literal, Parameter, Quoted, Signature};
-use tera_values::{Context, Error, Map, TeraResult, Value};
+use tera_values::{Context, Error, Key, Map, TeraResult, Value};
 
 fn parameter<'s>(
     name: &'s str,
@@ -127,6 +127,61 @@ fn bodies_are_bound(rt: HostRuntime) {
     let bound = "map {\"body\": \"<b>\", \"lang\": 4, \"name\": \"Vincent\", \"size\": 2}";
     assert!(rt; answers_with_body(alloc, &[("lang", 4)], bound));
     assert!(rt; answers_with_body(alloc, &[("lung", 4)], "message"));
+}
+
+/// The names of 100 parameters, in falling order.
+fn falling(alloc: Global) -> TeraResult<Vec<String>> {
+    let mut names = Vec::new(alloc);
+    for number in 0..100_u32 {
+        names.push(format!(in alloc; "p{}", 999 - number)?)?;
+    }
+    Ok(names)
+}
+
+/// What a call of a component with these parameters binds, of which one is given.
+fn bound_of(alloc: Global, names: &[String]) -> TeraResult<Context> {
+    let mut parameters = Vec::new(alloc);
+    for name in names {
+        parameters.push(parameter(name.as_str(), false, None, Some(Literal::Int(2))))?;
+    }
+    let signature = Signature {
+        name: "many",
+        parameters,
+        rest: Some("all"),
+    };
+    let definition = ComponentDefinition::new(alloc, &signature)?;
+    let mut given = Map::new(alloc);
+    let key = Key::Text(String::from_str(alloc, "p950")?);
+    given.insert(key, Value::from_int(7))?;
+    definition.build_context(
+        alloc,
+        &given,
+        &Context::new(alloc),
+        Some(Value::from_int(1)),
+    )
+}
+
+fn is_bound(context: &Context, name: &str, number: i128) -> bool {
+    match context.get(name) {
+        Some(value) => value.as_i128() == Some(number),
+        None => false,
+    }
+}
+
+fn many_are_bound(alloc: Global) -> TeraResult<bool> {
+    let context = bound_of(alloc, falling(alloc)?.as_slice())?;
+    Ok(
+        context.names()?.len() == 102
+            && is_bound(&context, "body", 1)
+            && is_bound(&context, "p900", 2)
+            && is_bound(&context, "p950", 7)
+            && is_bound(&context, "p999", 2),
+    )
+}
+
+#[test]
+fn many_parameters_are_bound(rt: HostRuntime) {
+    assert!(rt; matches!(many_are_bound(rt.alloc()), Ok(true)));
 }
 
 fn looks_up(alloc: Global, implicits: &Context, global: &Context) -> bool {

@@ -2,9 +2,9 @@
 ghost use Rattle.std.specs.Prelude.{◌<◌};
 
 use crate::sample::Sample::{Ints, Text};
-use crate::sample::{key, map, value};
+use crate::sample::{is_value, key, map, value};
 use std::alloc::Global;
-use tera_values::{Context, Key, Map, Name, Value};
+use tera_values::{Context, Key, Map, Name, TeraResult, Value};
 
 fn first_is(all: &Map, name: &str, number: i128) -> bool {
     match all.entry_at(0) {
@@ -110,6 +110,24 @@ fn context_keeps(alloc: Global, out: &mut String) -> bool {
         && listed(&context, out)
 }
 
+fn numbered(alloc: Global) -> TeraResult<Context> {
+    let mut context = Context::new(alloc);
+    for (name, number) in [("b", 1), ("é", 2), ("a", 3), ("ab", 4)] {
+        context.insert(name, Value::from_int(number))?;
+    }
+    Ok(context)
+}
+
+fn copies_some(alloc: Global) -> TeraResult<bool> {
+    let all = numbered(alloc)?;
+    let some = all.try_clone_with(&["é", "x", "a", "é"])?.to_value()?;
+    let others = all.try_clone_without(&["é", "x", "a", "é"])?.to_value()?;
+    Ok(
+        is_value(alloc, &some, "map {\"a\": 3, \"é\": 2}")
+            && is_value(alloc, &others, "map {\"ab\": 4, \"b\": 1}"),
+    )
+}
+
 fn shares(name: &Name) -> bool {
     match name.share() {
         Ok(other) => other.as_str() == "n",
@@ -131,6 +149,7 @@ fn names_are_kept(rt: HostRuntime) {
     let right = keeps_positions(alloc)
         && finds_many(alloc)
         && context_keeps(alloc, &mut out)
-        && is_shared(alloc);
+        && is_shared(alloc)
+        && matches!(copies_some(alloc), Ok(true));
     assert!(rt; right);
 }

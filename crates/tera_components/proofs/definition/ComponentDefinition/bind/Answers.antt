@@ -9,6 +9,9 @@ returns-in_err-others g c = gives_called _ c.args.self.now (named_arguments c.ar
 pub returns-in_err-context : goal.returns-in_err-context
 returns-in_err-context g c = gives_called _ c.args.self.now (named_arguments c.args.given.now) c.args.body (g.C.Implicits.implicit c.args.caller.now) (search rules)
 
+pub returns-in_err-put_arguments : goal.returns-in_err-put_arguments
+returns-in_err-put_arguments g c = gives_called _ c.args.self.now (named_arguments c.args.given.now) c.args.body (g.C.Implicits.implicit c.args.caller.now) (search rules)
+
 pub returns-in_err-put_others : goal.returns-in_err-put_others
 returns-in_err-put_others g c = gives_called _ c.args.self.now (named_arguments c.args.given.now) c.args.body (g.C.Implicits.implicit c.args.caller.now) (search rules)
 

@@ -99,6 +99,7 @@ impl ComponentArg {
     }
 
     // What an implicit parameter finds in the caller.
+    #[inline(always)]
     fn look_up<C: Implicits>(&self, alloc: Global, caller: &C) -> TeraResult<Option<Value>>
         ensures { Gives (λ o. o) result
             (Ok (looked_up (C.implicit caller.now) self.now.is_implicit self.now.name)) }
@@ -114,6 +115,7 @@ impl ComponentArg {
     }
 
     // What is given, undefined too; else what is looked up; else the default.
+    #[inline(always)]
     fn offer<C: Implicits>(
         &self,
         alloc: Global,

@@ -77,6 +77,7 @@ impl<'k> Entries<'k> {
     }
 
     /// Whether each text key is a key of the names. A key that is no text names nothing. Takes no memory.
+    #[inline(always)]
     pub fn are_among(&self, names: &Map) -> bool
         ensures is { result ≡ are_named names.now self.now }
         ensures among { result ≡ true → AreAmong names.now self.now }

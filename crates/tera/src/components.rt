@@ -91,8 +91,9 @@ impl<O: Objects> TeraOver<O> {
     {
         match self.templates.component(name) {
             Some(found) => {
-                let answer = self
-                    .render_found_component(found, args, implicits, body, autoescape, steps);
+                let answer = self.render_found_component(
+                    found, args, implicits, body, autoescape, steps,
+                );
                 self.tell(answer, None)
             }
             None => Err(no_component(self.alloc, name)),

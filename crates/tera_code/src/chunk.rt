@@ -98,7 +98,11 @@ impl Chunk {
 
     /// The attribute that the instruction at this position takes, which is counted where it takes one.
     #[inline(always)]
-    pub fn attribute_at<T: Tally>(&self, at: usize, steps: &mut Steps<T>) -> Option<(Text<'_>, bool, Span)>
+    pub fn attribute_at<T: Tally>(
+        &self,
+        at: usize,
+        steps: &mut Steps<T>,
+    ) -> Option<(Text<'_>, bool, Span)>
         ensures means { IfSome result (λ p. slice_get self.now.code at
             ≡ Some (instruction.LoadAttribute p.0 p.1 p.2)) }
         ensures exact { option_map (λ p. (p.0, p.1, p.2)) result

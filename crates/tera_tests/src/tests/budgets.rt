@@ -18,21 +18,25 @@ const TEXTS: &str = r#"0
 1 a
 1 {{ name }}
 3 Hello {{ name }}!
-2 {{ name | upper }}
+3 {{ name | trim }}
 4 {% if name %}a{% else %}b{% endif %}
 9 {% for x in [1, 2] %}{{ x }}{% endfor %}
+19 {% for x in [1, 2] %}{{ x }}{% if x > 1 %}a{% endif %}{% endfor %}
+18 {{ [x for x in [1, 2] if x > 1] }}
+9 {% include "part" %}
 1 {{ nope }}
-3 a{{ name }}{{ nope.a }}
+4 a{{ name }}{{ nope.a }}
 0 {{ name
 0 {% extends "base" %}
 0 {{ <Nowhere/> }}"#;
 
-const TEMPLATES: &str = "3 base
-8 child
+const TEMPLATES: &str = "4 base
+16 child
+8 part
 2 faulty
 0 nowhere";
 
-const COMPONENTS: &str = "4 Card
+const COMPONENTS: &str = "5 Card
 2 Wrong
 0 Nowhere";
 

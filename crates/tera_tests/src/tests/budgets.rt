@@ -161,7 +161,9 @@ fn is_just_enough(engine: &Tera, context: &Context, of: Of, line: &str) -> bool 
 }
 
 fn are_just_enough(engine: &Tera, context: &Context, of: Of, lines: &str) -> bool {
-    lines.lines().all(|line| is_just_enough(engine, context, of, line))
+    lines
+        .lines()
+        .all(|line| is_just_enough(engine, context, of, line))
 }
 
 fn all_answer(engine: &Tera, context: &Context) -> bool {

@@ -21,6 +21,7 @@ use Rattle.tera_marks.proofs.Traced.{components_are_traced}
 use Rattle.tera_registry.specs.declared.templates.Defined.{Defined}
 use Rattle.tera_registry.specs.Templates.{IsKept, IsDefined}
 use Rattle.tera.specs.Registry.{subject_of_component, text_meant, info_at}
+use Rattle.tera.specs.Budget.{component_visits, visits_meant, visits_of_component, visits_within}
 use Rattle.tera.specs.Rendering.{ComponentByName}
 
 named-by : (b : Bool) (file name : Name) (d : Signature × Nodes) (ds : List (Signature × Nodes)) (c : Component) → bytes_eq name d.0.name ≡ b → (if b then Some (let k : Component = record { file = file; signature = d.0; body = d.1 } in k) else component_named file name ds) ≡ Some c → (component_named file name ds ≡ Some c → c.signature.name ≡ name) → c.signature.name ≡ name
@@ -112,6 +113,20 @@ module _ (r : Registry) (args implicits : Named Val) (body : Option Text) (flag 
       → text_meant (subject_of_component r (component r found.definition.now.name) inner flag) ≡ render_component r found.definition.now.name args implicits body flag
   component-runs context inner is made at =
       meant-runs (component r found.definition.now.name) context inner is made at
+
+  visits-run : (o : Option Component) (context : Named Val) (inner : Around) → IsDefined o (Some found) → Builds found.definition.now args value around v (Ok context) → inner ≡ in_component context around v → visits_meant (subject_of_component r o inner flag) ≡ visits_of_component r o args implicits body flag
+  visits-run None context inner is made at = absurd is
+  visits-run (Some c) context inner is made at =
+      let fits = fit-is r caller flag c _ context (builds c (Ok context) is made) in
+      let place = at ∙ ap₂ (λ a w. in_component context a w) outer fresh in
+      ap (λ (a : Around). visits_meant (subject_of_component r (Some c) a flag)) place
+      ∙ ap (visits_within r caller flag c) (sym fits)
+
+  -- and so are its visits
+  pub component-visits : (context : Named Val) (inner : Around) → IsDefined (component r found.definition.now.name) (Some found) → Builds found.definition.now args value around v (Ok context) → inner ≡ in_component context around v
+      → visits_meant (subject_of_component r (component r found.definition.now.name) inner flag) ≡ component_visits r found.definition.now.name args implicits body flag
+  component-visits context inner is made at =
+      visits-run (component r found.definition.now.name) context inner is made at
 
 module _ (r : Registry) (name : Name) (args implicits : Named Val) (body : Option Text) (flag : Bool) where
   origin-of : (answer : Result Text Fault) → answer ≡ render_component r name args implicits body flag → IsTrue flag → r.engine.escape ≡ escape_html → Traces (render_component_in marking r name args implicits body flag) answer

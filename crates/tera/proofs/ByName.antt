@@ -10,7 +10,7 @@ use Rattle.tera_syntax_tree.specs.Tree.{Nodes}
 use Rattle.tera_meaning.specs.Registry.{Registry}
 use Rattle.tera_meaning.specs.Resolve.{entry_at, resolve, root}
 use Rattle.tera_state.specs.Scope.{nothing_set}
-use Rattle.tera_meaning.specs.Run.{Signal, Answer, begun}
+use Rattle.tera_meaning.specs.Run.{Signal, Answer, begun, visits_of}
 use Rattle.tera_meaning.specs.Lineage.{Definer, definers}
 use Rattle.tera_meaning.specs.Rendering.{alone, autoescapes, text_of, template_meaning, render, render_in, render_template, block_among, render_template_block, render_block, render_block_in}
 use Rattle.tera_code.specs.Code.{listing_of, nodes_code}
@@ -23,6 +23,7 @@ use Rattle.tera_registry.specs.Templates.{Leads, with_templates, definers_of}
 use Rattle.tera_registry.specs.declared.templates.FoundTemplate.{FoundTemplate}
 use Rattle.tera_registry.specs.declared.templates.Definers.{Definers}
 use Rattle.tera.specs.Registry.{nodes_in, nodes_of_file, subject_of, subject_of_file, text_meant, block_meant}
+use Rattle.tera.specs.Budget.{template_visits, visits_meant, visits_of_entry}
 use Rattle.tera.specs.Rendering.{ByName, BlockByName}
 use Rattle.tera.proofs.Owned.{owns-resolved, owns-root}
 
@@ -57,6 +58,12 @@ pub text-found : (r : Registry) (name : Name) (context : Named Val) (found : Fou
 text-found r name context found leads code own =
     ap text_of (answer-found r name context found leads code own)
     ∙ sym (ap (λ o. render_template r o context) leads.resolves)
+
+-- and so are its visits
+pub visits-found : (r : Registry) (name : Name) (context : Named Val) (found : FoundTemplate) (leads : Leads r name found) (code : Listing) (own : code ≡ listing_of (root r leads.entry).0 (root r leads.entry).1.tree.nodes) → visits_meant (subject_of_file r found.name.now code.file context) ≡ template_visits r name context
+visits-found r name context found leads code own =
+    ap visits_of (answer-found r name context found leads code own)
+    ∙ sym (ap (λ o. visits_of_entry r o context) leads.resolves)
 
 module _ (r : Registry) (name block : Name) (context : Named Val) (found : FoundTemplate) (leads : Leads r name found) (ds : Definers) (of_block : (s : Registry) → definers_of ds ≡ definers (with_templates s found.templates.now) (Some found.name.now) block) where
   defined : definers_of ds ≡ definers r (Some leads.entry.0) block

@@ -1,6 +1,7 @@
 pub mod Lent
 pub mod Registry
 pub mod Rendering
+pub mod Budget
 pub mod Configuring
 pub mod Lending
 pub mod Registering

@@ -1,5 +1,5 @@
 // Components by name.
-ghost use Rattle.std.specs.Prelude.{◌≡◌, Some, Ok, true, map, option_map, string_bytes, IfOk, IfErr};
+ghost use Rattle.std.specs.Prelude.{◌≡◌, ◌+◌, ◌*◌, ◌≤◌, Some, Ok, true, map, option_map, string_bytes, IfOk, IfErr};
 ghost use Rattle.tera_errors.specs.Prelude.{Gives, GivesOneOf, Lacks};
 ghost use Rattle.tera_values.specs.Prelude.{text};
 ghost use Rattle.tera_state.specs.Prelude.{nothing_set, around_of, variables_of};
@@ -7,12 +7,14 @@ ghost use Rattle.tera_code.specs.Prelude.{listing_of};
 ghost use Rattle.tera_meaning.specs.Prelude.{is_component, AreComponentNames, component, render_component};
 ghost use Rattle.tera_registry.specs.Prelude.{code_of, IsDefined};
 ghost use Rattle.tera_machine.specs.Prelude.{Subject};
+ghost use Rattle.tera.specs.Budget.{component_visits, visits_meant};
 ghost use Rattle.tera.specs.Lent.{lent_text};
 ghost use Rattle.tera.specs.Rendering.{ComponentByName, AppendsOneOf};
 
 use crate::engine::TeraOver;
 use crate::refusals::no_component;
 use std::alloc::Global;
+use tera_code::{Steps, Tally};
 use tera_components::ComponentInfo;
 use tera_machine::VirtualMachine;
 use tera_objects::Objects;
@@ -67,9 +69,31 @@ impl<O: Objects> TeraOver<O> {
             (ComponentByName (registry_of O.engine self.now) name.now
             args.now implicits.now (lent_text body.entry) autoescape) }
     {
+        let mut steps = Steps::new();
+        self.render_by_call(name, args, implicits, body, autoescape, &mut steps)
+    }
+
+    // The same, of which each instruction is counted.
+    pub(crate) fn render_by_call<T: Tally>(
+        &self,
+        name: &str,
+        args: &Context,
+        implicits: &Context,
+        body: Option<&str>,
+        autoescape: bool,
+        steps: &mut Steps<T>,
+    ) -> TeraResult<String>
+        ensures means { GivesOneOf string_bytes result
+            (ComponentByName (registry_of O.engine self.now) name.now
+            args.now implicits.now (lent_text body.entry) autoescape) }
+        ensures few { steps.new ≤ steps.old + 8 * component_visits (registry_of O.engine self.now)
+            name.now args.now implicits.now (lent_text body.entry) autoescape }
+    {
         match self.templates.component(name) {
             Some(found) => {
-                let answer = self.render_found_component(found, args, implicits, body, autoescape);
+                let answer = self.render_found_component(
+                    found, args, implicits, body, autoescape, steps,
+                );
                 self.tell(answer, None)
             }
             None => Err(no_component(self.alloc, name)),
@@ -97,20 +121,24 @@ impl<O: Objects> TeraOver<O> {
 
     // The text of a component that was found, which runs in a context of its own. Implicit parameters are looked up in a state
     // that has the implicits as its context, and the global context.
-    fn render_found_component(
+    fn render_found_component<T: Tally>(
         &self,
         found: Defined<'_>,
         args: &Context,
         implicits: &Context,
         body: Option<&str>,
         autoescape: bool,
+        steps: &mut Steps<T>,
     ) -> TeraResult<String>
         requires defined { IsDefined
             (component (registry_of O.engine self.now) found.definition.now.name) (Some found) }
         requires here { found.body.templates.now ≡ self.now.templates }
-        ensures { Gives string_bytes result (render_component (registry_of O.engine self.now)
+        ensures means { Gives string_bytes result (render_component (registry_of O.engine self.now)
             found.entry.definition.now.name args.now implicits.now (lent_text body.entry)
             autoescape) }
+        ensures few { steps.new ≤ steps.old + 8 * component_visits (registry_of O.engine self.now)
+            found.entry.definition.now.name args.now implicits.now (lent_text body.entry)
+            autoescape }
     {
         let body = handed(self.alloc, body)?;
         let mut scopes = Scopes::new(self.alloc, implicits, Some(&self.global_context));
@@ -120,15 +148,16 @@ impl<O: Objects> TeraOver<O> {
             Err(error) => return Err(error),
         };
         scopes.enter_component(context)?;
-        self.run_component(found, scopes, autoescape)
+        self.run_component(found, scopes, autoescape, steps)
     }
 
     // The text of the body of a component, which reads these scopes. The subject is the body's.
-    fn run_component(
+    fn run_component<T: Tally>(
         &self,
         found: Defined<'_>,
         scopes: Scopes<'_>,
         autoescape: bool,
+        steps: &mut Steps<T>,
     ) -> TeraResult<String>
         ghost about: { Subject }
         requires subject { about ≡ subject_of_component (registry_of O.engine self.now)
@@ -137,10 +166,11 @@ impl<O: Objects> TeraOver<O> {
         requires here { found.body.templates.now ≡ self.now.templates }
         requires code { code_of found.body ≡ listing_of about.place.file about.tree }
         requires fresh { variables_of scopes ≡ nothing_set }
-        ensures { Gives string_bytes result (text_meant about) }
+        ensures means { Gives string_bytes result (text_meant about) }
+        ensures few { steps.new ≤ steps.old + 8 * visits_meant about }
     {
         let machine = VirtualMachine::new_with_autoescape(self.alloc, autoescape, &self.objects);
-        self.run_within(&machine, found.body, scopes)
+        self.run_counted(&machine, found.body, scopes, steps)
     }
 }
 

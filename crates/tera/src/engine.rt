@@ -1,16 +1,18 @@
 // An engine, and what it renders.
-ghost use Rattle.std.specs.Prelude.{◌≡◌, [], Ok, IsTrue, OnOk, IfErr, false, string_bytes};
+ghost use Rattle.std.specs.Prelude.{◌≡◌, [], ℕ, ◌+◌, ◌<◌, Ok, IsTrue, OnOk, IfErr, false, string_bytes};
 ghost use Rattle.std.specs.Borrow.{sem};
 ghost use Rattle.tera_errors.specs.Prelude.{Gives, GivesOneOf, Tells, message};
 ghost use Rattle.tera_syntax_tree.specs.Prelude.{delimiters_of, accepted};
 ghost use Rattle.tera_meaning.specs.Prelude.{new_registry};
 ghost use Rattle.tera_registry.specs.Prelude.{is_empty};
+ghost use Rattle.tera.specs.Budget.{TextTakesMore};
 ghost use Rattle.tera.specs.Rendering.{OneOff, AppendsOneOf};
 ghost use Rattle.tera.specs.Configuring.{Configures, with_delimiters, with_prefixes, with_suffixes};
 ghost use Rattle.tera.specs.Lent.{texts_of};
 
 use crate::texts::{copied, standard_suffixes};
 use std::alloc::Global;
+use tera_code::{Steps, Tally};
 use tera_objects::{CallerObjects, Objects};
 use tera_registry::Templates;
 use tera_syntax_tree::Delimiters;
@@ -152,7 +154,24 @@ impl<O: Objects> TeraOver<O> {
         ensures { GivesOneOf string_bytes result
             (OneOff (registry_of O.engine self.now) input.now context.now autoescape) }
     {
-        let answer = self.read_and_render(input, context, autoescape);
+        let mut steps = Steps::new();
+        self.render_text(input, context, autoescape, &mut steps)
+    }
+
+    // The same, of which each instruction is counted.
+    pub(crate) fn render_text<T: Tally>(
+        &self,
+        input: &str,
+        context: &Context,
+        autoescape: bool,
+        steps: &mut Steps<T>,
+    ) -> TeraResult<String>
+        ensures means { GivesOneOf string_bytes result
+            (OneOff (registry_of O.engine self.now) input.now context.now autoescape) }
+        ensures few { (n : ℕ) → steps.old + n < steps.new → TextTakesMore
+            (registry_of O.engine self.now) input.now context.now autoescape n }
+    {
+        let answer = self.read_and_render(input, context, autoescape, steps);
         self.tell(answer, Some(input))
     }
 

@@ -1,6 +1,7 @@
 //! Tera's template engine: compile, link, render.
 #![tactic(auto)]
 
+mod budgets;
 pub mod components;
 pub mod engine;
 pub mod laws;
@@ -43,8 +44,9 @@ pub use tera_state::{
 };
 // Code, templates by name, and what runs.
 pub use tera_code::{
-    BlockCode, CallKind, Callee, Chunk, Comparison, Compiler, Constant, Instruction, Keys,
-    LentInstruction, LentName, Names, Spreads, Steps, Target, Text, compiled,
+    Allowance, BlockCode, Budget, CallKind, Callee, Chunk, Comparison, Compiler, Constant,
+    Instruction, Keys, LentInstruction, LentName, Names, Spreads, Steps, Tally, Target, Text,
+    Untold, compiled,
 };
 pub use tera_machine::{
     Asked, AskedComponent, AskedTemplate, Configuration, Ended, LoopPlace, Numbered, OpenBlock,

@@ -1,17 +1,18 @@
 // From a text, or the code of a body, to what it renders to.
-ghost use Rattle.std.specs.Prelude.{◌≡◌, [], IfOk, OnOk, string_bytes};
+ghost use Rattle.std.specs.Prelude.{◌≡◌, [], ℕ, ◌+◌, ◌*◌, ◌<◌, ◌≤◌, IfOk, OnOk, string_bytes};
 ghost use Rattle.tera_errors.specs.Prelude.{Gives, GivesOneOf};
 ghost use Rattle.tera_syntax_tree.specs.Prelude.{blocks, nodes_of, tree_of};
 ghost use Rattle.tera_state.specs.Prelude.{nothing_set, around_of, variables_of};
 ghost use Rattle.tera_meaning.specs.Prelude.{outermost};
 ghost use Rattle.tera_code.specs.Prelude.{nodes_code};
 ghost use Rattle.tera_registry.specs.Prelude.{code_of, with_templates};
+ghost use Rattle.tera.specs.Budget.{TextTakesMore, visits_meant};
 ghost use Rattle.tera.specs.Rendering.{OneOff, allowed};
 ghost use Rattle.tera_machine.specs.Prelude.{Subject, IsLinked, IsOf, engine_of};
 
 use crate::engine::TeraOver;
 use std::alloc::{AllocError, Global};
-use tera_code::{Chunk, Steps, compiled};
+use tera_code::{Chunk, Steps, Tally, compiled};
 use tera_machine::{Configuration, VirtualMachine};
 use tera_objects::Objects;
 use tera_registry::components::components;
@@ -34,18 +35,27 @@ struct Source<'a> {
 impl<O: Objects> TeraOver<O> {
     ghost use Rattle.tera.specs.Registry.{registry_of, place_in, subject_beside, subject_of_file, text_meant, one_off_meant, block_meant};
 
-    pub(crate) fn read_and_render(
+    pub(crate) fn read_and_render<T: Tally>(
         &self,
         input: &str,
         context: &Context,
         autoescape: bool,
+        steps: &mut Steps<T>,
     ) -> TeraResult<String>
-        ensures { GivesOneOf string_bytes result
+        ensures means { GivesOneOf string_bytes result
             (OneOff (registry_of O.engine self.now) input.now context.now autoescape) }
+        ensures few { (n : ℕ) → steps.old + n < steps.new → TextTakesMore
+            (registry_of O.engine self.now) input.now context.now autoescape n }
     {
         match parse(self.alloc, ONE_OFF, input, &self.delimiters) {
             Ok(output) => match allow(self.alloc, &output) {
-                Ok(()) => self.render_output(Source { text: input }, &output, context, autoescape),
+                Ok(()) => self.render_output(
+                    Source { text: input },
+                    &output,
+                    context,
+                    autoescape,
+                    steps,
+                ),
                 Err(error) => Err(error),
             },
             Err(error) => Err(error),
@@ -54,19 +64,21 @@ impl<O: Objects> TeraOver<O> {
 
     // The text that was read to this and stands beside the registry, rendered; an error where it calls or includes what is not there.
     // The subject is its own.
-    fn render_output<'s>(
+    fn render_output<'s, T: Tally>(
         &'s self,
         source: Source<'_>,
         output: &ParserOutput,
         context: &'s Context,
         autoescape: bool,
+        steps: &mut Steps<T>,
     ) -> TeraResult<String>
         ghost about: { Subject }
         requires subject { about
             ≡ subject_beside (registry_of O.engine self.now) (tree_of output.now)
             context.now autoescape }
         requires plain { blocks (nodes_of output.now.nodes.items) ≡ [] }
-        ensures { Gives string_bytes result (one_off_meant about) }
+        ensures means { Gives string_bytes result (one_off_meant about) }
+        ensures few { steps.new ≤ steps.old + 8 * visits_meant about }
     {
         let alloc = self.alloc;
         let nodes = output.nodes.as_slice();
@@ -84,16 +96,17 @@ impl<O: Objects> TeraOver<O> {
         let machine = alone.with_text(&text);
         let body = text.body();
         let scopes = self.scopes_for(body.chunk(), context)?;
-        self.run_within(&machine, body, scopes)
+        self.run_counted(&machine, body, scopes, steps)
     }
 
     // The text of a template that was found, from the body of its root on: the file that its code names says of which. The
     // subject is that body's.
-    pub(crate) fn render_found<'t>(
+    pub(crate) fn render_found<'t, T: Tally>(
         &self,
         found: FoundTemplate<'t>,
         root: Body<'t>,
         context: &Context,
+        steps: &mut Steps<T>,
     ) -> TeraResult<String>
         ghost about: { Subject }
         requires subject { about ≡ subject_of_file (registry_of O.engine self.now) found.name.now
@@ -102,12 +115,13 @@ impl<O: Objects> TeraOver<O> {
             ≡ about.world.registry }
         requires root { root.templates.now ≡ found.templates.now }
         requires code { (code_of root).code ≡ nodes_code about.tree 0 }
-        ensures { Gives string_bytes result (text_meant about) }
+        ensures means { Gives string_bytes result (text_meant about) }
+        ensures few { steps.new ≤ steps.old + 8 * visits_meant about }
     {
         let autoescape = self.escapes(found);
         let machine = VirtualMachine::for_template(self.alloc, autoescape, found, &self.objects);
         let scopes = self.scopes_for(root.chunk(), context)?;
-        self.run_within(&machine, root, scopes)
+        self.run_counted(&machine, root, scopes, steps)
     }
 
     // The text that a block of a template had when it ended last, while all of the template was rendered. The subject is as above.
@@ -151,11 +165,12 @@ impl<O: Objects> TeraOver<O> {
     }
 
     // The text of a body that reads these scopes. The subject is the body's: it tells the machine what it means.
-    pub(crate) fn run_within<'t>(
+    pub(crate) fn run_counted<'t, T: Tally>(
         &self,
         machine: &VirtualMachine<'t, O>,
         body: Body<'t>,
         scopes: Scopes<'_>,
+        steps: &mut Steps<T>,
     ) -> TeraResult<String>
         ghost about: { Subject }
         requires registry { about.world.registry ≡ registry_of O.engine self.now }
@@ -165,11 +180,11 @@ impl<O: Objects> TeraOver<O> {
         requires place { place_in machine.now (code_of body).file (around_of scopes) ≡ about.place }
         requires fresh { variables_of scopes ≡ nothing_set }
         requires code { (code_of body).code ≡ nodes_code about.tree 0 }
-        ensures { Gives string_bytes result (text_meant about) }
+        ensures means { Gives string_bytes result (text_meant about) }
+        ensures few { steps.new ≤ steps.old + 8 * visits_meant about }
     {
         let mut configuration = Configuration::new(self.alloc, scopes);
-        let mut steps = Steps::new();
-        match machine.run(body, &mut configuration, &mut steps) {
+        match machine.run(body, &mut configuration, steps) {
             Ok(()) => Ok(configuration.texts.into_string()),
             Err(error) => Err(error),
         }

@@ -1,8 +1,9 @@
 // Templates by name.
-ghost use Rattle.std.specs.Prelude.{◌≡◌, Ok, [], ◌∷◌, is_some, map, string_bytes};
+ghost use Rattle.std.specs.Prelude.{◌≡◌, ◌+◌, ◌*◌, ◌≤◌, Ok, [], ◌∷◌, is_some, map, string_bytes};
 ghost use Rattle.tera_errors.specs.Prelude.{Gives, GivesOneOf};
 ghost use Rattle.tera_meaning.specs.Prelude.{autoescapes, resolve, AnswersVariables};
 ghost use Rattle.tera_registry.specs.Prelude.{Adds, ConfiguresOneOf, pairs_of};
+ghost use Rattle.tera.specs.Budget.{template_visits};
 ghost use Rattle.tera.specs.Rendering.{ByName, BlockByName, AppendsOneOf};
 
 use crate::engine::TeraOver;
@@ -10,6 +11,7 @@ use crate::refusals::{no_block, no_template};
 use crate::sources::tell_of_batch;
 use crate::texts::ends_with_one_of;
 use std::collections::BTreeSet;
+use tera_code::{Steps, Tally};
 use tera_objects::Objects;
 use tera_registry::FoundTemplate;
 use tera_values::{Context, Name, TeraResult};
@@ -73,9 +75,25 @@ impl<O: Objects> TeraOver<O> {
         ensures { GivesOneOf string_bytes result
             (ByName (registry_of O.engine self.now) name.now context.now) }
     {
+        let mut steps = Steps::new();
+        self.render_template(name, context, &mut steps)
+    }
+
+    // The same, of which each instruction is counted.
+    pub(crate) fn render_template<T: Tally>(
+        &self,
+        name: &str,
+        context: &Context,
+        steps: &mut Steps<T>,
+    ) -> TeraResult<String>
+        ensures means { GivesOneOf string_bytes result
+            (ByName (registry_of O.engine self.now) name.now context.now) }
+        ensures few { steps.new ≤ steps.old + 8 * template_visits (registry_of O.engine self.now)
+            name.now context.now }
+    {
         match self.templates.find(name) {
             Some(found) => {
-                let answer = self.render_found(found, found.root(), context);
+                let answer = self.render_found(found, found.root(), context, steps);
                 self.tell(answer, None)
             }
             None => Err(no_template(self.alloc, name)),

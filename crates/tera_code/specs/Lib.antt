@@ -8,6 +8,7 @@ pub mod Asked
 pub mod Printing
 pub mod Settled
 pub mod Called
+pub mod Budget
 pub mod Targets
 pub mod Calls
 pub mod Prelude

@@ -16,6 +16,7 @@ use crate::lent_parts::Text;
 use crate::packed::{Packed, Tables};
 use crate::settling::settle;
 use crate::steps::Steps;
+use crate::tally::Tally;
 use crate::target::Target;
 use std::marker::Model;
 use tera_values::{Name, Span};
@@ -85,7 +86,7 @@ impl Chunk {
 
     /// The instruction at this position, from 0, which is counted where there is one. No call hands one out that it doesn't count.
     #[inline(always)]
-    pub fn get(&self, at: usize, steps: &mut Steps) -> Option<LentInstruction<'_>>
+    pub fn get<T: Tally>(&self, at: usize, steps: &mut Steps<T>) -> Option<LentInstruction<'_>>
         ensures found { MatchOption result (slice_get self.now.code at ≡ None)
             (λ i. slice_get self.now.code at ≡ Some i) }
         ensures small { IfSome result (λ _. length self.now.code < 2 ^ 64) }
@@ -97,7 +98,11 @@ impl Chunk {
 
     /// The attribute that the instruction at this position takes, which is counted where it takes one.
     #[inline(always)]
-    pub fn attribute_at(&self, at: usize, steps: &mut Steps) -> Option<(Text<'_>, bool, Span)>
+    pub fn attribute_at<T: Tally>(
+        &self,
+        at: usize,
+        steps: &mut Steps<T>,
+    ) -> Option<(Text<'_>, bool, Span)>
         ensures means { IfSome result (λ p. slice_get self.now.code at
             ≡ Some (instruction.LoadAttribute p.0 p.1 p.2)) }
         ensures exact { option_map (λ p. (p.0, p.1, p.2)) result
@@ -110,7 +115,7 @@ impl Chunk {
 
     /// Whether the instruction at this position puts out the topmost operand. It is counted where it does.
     #[inline(always)]
-    pub fn writes_top_at(&self, at: usize, steps: &mut Steps) -> bool
+    pub fn writes_top_at<T: Tally>(&self, at: usize, steps: &mut Steps<T>) -> bool
         ensures means { IsTrue result → slice_get self.now.code at ≡ Some instruction.WriteTop }
         ensures exact { result
             ≡ unwrap_or (option_map is_write_top (slice_get self.now.code at)) false }
@@ -128,7 +133,7 @@ impl Chunk {
     /// How many instructions are passed where the instruction at this position finds a falsy operand, which it takes. Only such
     /// an instruction is counted.
     #[inline(always)]
-    pub fn pop_jump_if_false_at(&self, at: usize, steps: &mut Steps) -> Option<usize>
+    pub fn pop_jump_if_false_at<T: Tally>(&self, at: usize, steps: &mut Steps<T>) -> Option<usize>
         ensures means { IfSome result (λ skip. slice_get self.now.code at
             ≡ Some (instruction.PopJumpIfFalse skip)) }
         ensures exact { result
@@ -142,7 +147,7 @@ impl Chunk {
     /// The comparison of the topmost operand with a constant that the two instructions at this position make, which are counted where
     /// they make one.
     #[inline(always)]
-    pub fn comparison_at(&self, at: usize, steps: &mut Steps) -> Option<Comparison<'_>>
+    pub fn comparison_at<T: Tally>(&self, at: usize, steps: &mut Steps<T>) -> Option<Comparison<'_>>
         ensures means { IfSome result (Compares self.now.code at) }
         ensures exact { result ≡ comparison_at self.now.code at }
         ensures count { MatchOption result (steps.new ≡ steps.old)
@@ -224,7 +229,7 @@ impl Chunk {
 
 // What an instruction is asked for. It is counted where it is told.
 #[inline(always)]
-fn counted<T: Drop>(told: Option<T>, steps: &mut Steps) -> Option<T>
+fn counted<A: Drop, T: Tally>(told: Option<A>, steps: &mut Steps<T>) -> Option<A>
     ensures same { result ≡ told }
     ensures count { MatchOption result (steps.new ≡ steps.old)
         (λ _. steps.new ≡ steps.old + 1) }

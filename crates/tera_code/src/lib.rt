@@ -27,6 +27,7 @@ mod settling;
 mod single_forms;
 mod spans;
 pub mod steps;
+pub mod tally;
 pub mod target;
 mod unpack;
 
@@ -42,4 +43,5 @@ pub use lent_instruction::LentInstruction;
 pub use lent_parts::{Keys, LentName, Names, Spreads, Text};
 pub use nodes::compiled;
 pub use steps::Steps;
+pub use tally::{Allowance, Budget, Tally, Untold};
 pub use target::Target;

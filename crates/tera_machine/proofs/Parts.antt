@@ -6,7 +6,7 @@ use Rattle.std.proofs.lemmas.Option.{slice_get_within}
 use Rattle.std.proofs.lemmas.List.{drop_all}
 use Rattle.std.proofs.lemmas.Slice.Eq.{bytes_eq-Decides}
 use Rattle.tera_errors.specs.Site.{Name}
-use Rattle.tera_errors.specs.Answer.{SeenError}
+use Rattle.tera_errors.specs.Answer.{SeenError, Lacks}
 use Rattle.tera_values.specs.Named.{at_name}
 use Rattle.tera_values.specs.Naming.{counter_of}
 use Rattle.tera_values.specs.Val.{Val, array, vals}
@@ -103,6 +103,11 @@ module _ {s : Start} {code : Code} {at n : ℕ} {c : Config} (b : Before s code 
   pub leads_before : {c2 : Config} (d : Did) (to : ℕ) → effect s.here (at + 1) i c ≡ d → onward at d ≡ Some (to, c2) → Before s code to n2 c2
   leads_before d to f o =
       record { counted = omega (arith, b.counted, m); led = led_behind s.here code (n2 - s.count) s.at s.config stands_before.led d (does_before ∙ f) ∙ o }
+
+-- and where memory is refused nothing is said of it
+pub lacking_breaks : {s : Start} {code : Code} {n : ℕ} (e : SeenError) → Lacks e → Breaks s code n e
+lacking_breaks None h = λ c. tt
+lacking_breaks (Some fault) h = (let q : Some fault ≡ None = h in cc)
 
 -- behind the first instruction
 pub first_leads : {here : Here} {code : Code} {at n : ℕ} {c c2 : Config} (i : Instruction) → slice_get code at ≡ Some i → effect here (at + 1) i c ≡ Goes c2 On → Before (start_at here at n c) code (at + 1) n c2

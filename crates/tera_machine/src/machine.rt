@@ -23,7 +23,7 @@ use crate::told::called_from;
 use crate::wanted::Wanted;
 use std::alloc::Global;
 use std::marker::Brand;
-use tera_code::Steps;
+use tera_code::{Steps, Tally};
 use tera_objects::Objects;
 use tera_registry::{Body, FoundTemplate, TextTable};
 use tera_state::Stack;
@@ -151,11 +151,11 @@ impl<'t, O: Objects> VirtualMachine<'t, O> {
     }
 
     /// Runs the code of a body to its end, and counts each instruction that it takes: at most eight a visit of the body's meaning.
-    pub fn run(
+    pub fn run<T: Tally>(
         &self,
         body: Body<'t>,
         configuration: &mut Configuration<'_>,
-        steps: &mut Steps,
+        steps: &mut Steps<T>,
     ) -> TeraResult<()>
         ghost about: { Subject }
         requires engine { engine_of O.engine self.now ≡ about.world.registry.engine }
@@ -175,16 +175,16 @@ impl<'t, O: Objects> VirtualMachine<'t, O> {
             ≡ around_of configuration.old.scopes) }
     {
         let mut blocks = OpenBlocks::new(self.alloc, Wanted::none());
-        self.run_counted::<Brand>(body, &mut blocks, configuration, steps)
+        self.run_counted::<Brand, T>(body, &mut blocks, configuration, steps)
     }
 
     /// The same, where no block ended before: the text of the block of this name as it ended last, or the empty text.
-    pub fn run_for_block(
+    pub fn run_for_block<T: Tally>(
         &self,
         body: Body<'t>,
         block: &Name,
         configuration: &mut Configuration<'_>,
-        steps: &mut Steps,
+        steps: &mut Steps<T>,
     ) -> TeraResult<String>
         ghost about: { Subject }
         requires engine { engine_of O.engine self.now ≡ about.world.registry.engine }
@@ -204,7 +204,7 @@ impl<'t, O: Objects> VirtualMachine<'t, O> {
     {
         let wanted = Wanted::block(block)?;
         let mut blocks = OpenBlocks::new(self.alloc, wanted);
-        match self.run_counted::<Brand>(body, &mut blocks, configuration, steps) {
+        match self.run_counted::<Brand, T>(body, &mut blocks, configuration, steps) {
             Ok(()) => {}
             Err(error) => return Err(error),
         }
@@ -218,12 +218,12 @@ impl<'t, O: Objects> VirtualMachine<'t, O> {
     }
 
     // The same, in the machine's own terms, and where blocks may be open. A fault is told of the bodies that wait then.
-    fn run_counted<M: Limit>(
+    fn run_counted<M: Limit, T: Tally>(
         &self,
         first: Body<'t>,
         blocks: &mut OpenBlocks<'t>,
         configuration: &mut Configuration<'_>,
-        steps: &mut Steps,
+        steps: &mut Steps<T>,
     ) -> TeraResult<()>
         requires engine { engine_of O.engine self.now ≡ M.world.registry.engine }
         requires linked { IsLinked self.now M.world }
@@ -241,7 +241,7 @@ impl<'t, O: Objects> VirtualMachine<'t, O> {
             configuration.new) }
     {
         let mut open: Stack<Waiting<'t>> = Stack::new(self.alloc);
-        match self.run_open::<M>(first, blocks, configuration, steps, &mut open) {
+        match self.run_open::<M, T>(first, blocks, configuration, steps, &mut open) {
             Ok(()) => Ok(()),
             Err(error) => Err(called_from(self.alloc, error, &open)),
         }
@@ -250,12 +250,12 @@ impl<'t, O: Objects> VirtualMachine<'t, O> {
     // The same, where no body waits at first. Those that wait for those that they take lie in a
     // list, so the host's stack does not grow.
     #[inline(never)]
-    fn run_open<M: Limit>(
+    fn run_open<M: Limit, T: Tally>(
         &self,
         first: Body<'t>,
         blocks: &mut OpenBlocks<'t>,
         configuration: &mut Configuration<'_>,
-        steps: &mut Steps,
+        steps: &mut Steps<T>,
         open: &mut Stack<Waiting<'t>>,
     ) -> TeraResult<()>
         requires engine { engine_of O.engine self.now ≡ M.world.registry.engine }

@@ -20,7 +20,7 @@ use crate::instructions::undefined_written;
 use crate::machine::{Flow, Going, VirtualMachine};
 use crate::texts::Texts;
 use std::alloc::Global;
-use tera_code::{Chunk, Comparison, Steps};
+use tera_code::{Chunk, Comparison, Steps, Tally};
 use tera_objects::Objects;
 use tera_operators::{LentOperand, Operand};
 use tera_state::Found;
@@ -43,12 +43,12 @@ fn lent<'a>(found: &Found<'a>, span: Span) -> Option<LentOperand<'a>>
 
 /// Takes the attributes of an operand that the instructions behind a position take, each of what the one before gave. The position
 /// becomes that of the last of these instructions. That holds wherever the reading of the path began.
-fn attributes<'v>(
+fn attributes<'v, T: Tally>(
     alloc: Global,
     chunk: &Chunk,
     at: &mut usize,
     reached: LentOperand<'v>,
-    steps: &mut Steps,
+    steps: &mut Steps<T>,
 ) -> TeraResult<LentOperand<'v>>
     requires few { length chunk.now.code < 2 ^ 64 }
     requires there { at.old < length chunk.now.code }
@@ -77,11 +77,11 @@ fn attributes<'v>(
 /// Where it goes on if the instruction behind a position tests the topmost operand, which is this one. The position becomes that of this
 /// instruction.
 #[inline(always)]
-fn tested<'f>(
+fn tested<'f, T: Tally>(
     chunk: &Chunk,
     at: &mut usize,
     top: &LentOperand<'_>,
-    steps: &mut Steps,
+    steps: &mut Steps<T>,
 ) -> Option<Flow<'f>>
     requires few { length chunk.now.code < 2 ^ 64 }
     requires there { at.old < length chunk.now.code }
@@ -150,14 +150,14 @@ impl<'c> Configuration<'c> {
     /// tests it, or those that compare it with a constant and test that. Nothing is copied or pushed on the way, and only what is
     /// not used up at once is put on the operands.
     #[inline(never)]
-    pub(crate) fn read<'f, O: Objects>(
+    pub(crate) fn read<'f, O: Objects, T: Tally>(
         &mut self,
         machine: &VirtualMachine<'_, O>,
         chunk: &Chunk,
         at: &mut usize,
         name: &Name,
         span: Span,
-        steps: &mut Steps,
+        steps: &mut Steps<T>,
     ) -> Going<'f>
         requires there { slice_get chunk.now.code at.old
             ≡ Some (instruction.LoadName name.now span) }
@@ -196,13 +196,13 @@ impl<'c> Configuration<'c> {
     }
 
     /// The same with an operand of its own that was read.
-    fn use_up<'f>(
+    fn use_up<'f, T: Tally>(
         &mut self,
         alloc: Global,
         chunk: &Chunk,
         at: &mut usize,
         operand: Operand,
-        steps: &mut Steps,
+        steps: &mut Steps<T>,
     ) -> Going<'f>
         requires few { length chunk.now.code < 2 ^ 64 }
         requires there { at.old < length chunk.now.code }
@@ -227,12 +227,12 @@ impl<'c> Configuration<'c> {
     /// Tests an operand where the instruction behind a position does so, and else puts it on top of the others. The position becomes that
     /// of the last instruction that is done.
     #[inline(always)]
-    fn test_or_put<'f>(
+    fn test_or_put<'f, T: Tally>(
         &mut self,
         chunk: &Chunk,
         at: &mut usize,
         operand: Operand,
-        steps: &mut Steps,
+        steps: &mut Steps<T>,
     ) -> Going<'f>
         requires few { length chunk.now.code < 2 ^ 64 }
         requires there { at.old < length chunk.now.code }

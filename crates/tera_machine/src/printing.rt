@@ -21,9 +21,9 @@ use crate::configuration::Configuration;
 use crate::instructions::undefined_written;
 use crate::machine::{Flow, Going, VirtualMachine};
 use crate::texts::Texts;
-use tera_code::{Chunk, LentInstruction, Steps};
+use tera_code::{Chunk, LentInstruction, Steps, Tally};
 use tera_objects::Objects;
-use tera_values::{Shape, TeraResult, Value};
+use tera_values::{Error, Shape, TeraResult, Value};
 
 /// The items of an array, where it has some.
 fn items_of(value: &Value) -> Option<&[Value]>
@@ -71,7 +71,7 @@ fn put_part<O: Objects>(
 
 /// Puts out the parts from a position to the end of the body. At a fault `at` becomes the position of the part that is at fault.
 #[inline(always)]
-fn put_parts<O: Objects>(
+fn put_parts<O: Objects, T: Tally>(
     texts: &mut Texts,
     machine: &VirtualMachine<'_, O>,
     chunk: &Chunk,
@@ -79,7 +79,7 @@ fn put_parts<O: Objects>(
     end: usize,
     item: &Value,
     at: &mut usize,
-    steps: &mut Steps,
+    steps: &mut Steps<T>,
 ) -> TeraResult<()>
     requires few { length chunk.now.code < 2 ^ 64 }
     requires size { start ≤ end }
@@ -114,9 +114,9 @@ fn put_parts<O: Objects>(
     Ok(())
 }
 
-/// Does the turns of these items, each from the start of the body to its end.
+/// Does the turns of these items, each from the start of the body to its end, unless a budget is spent.
 #[inline(always)]
-fn put_turns<O: Objects>(
+fn put_turns<O: Objects, T: Tally>(
     texts: &mut Texts,
     machine: &VirtualMachine<'_, O>,
     chunk: &Chunk,
@@ -124,7 +124,7 @@ fn put_turns<O: Objects>(
     size: usize,
     items: &[Value],
     at: &mut usize,
-    steps: &mut Steps,
+    steps: &mut Steps<T>,
 ) -> TeraResult<()>
     requires few { length chunk.now.code < 2 ^ 64 }
     requires within { start + size < length chunk.now.code }
@@ -154,6 +154,10 @@ fn put_turns<O: Objects>(
         let Some(_) = chunk.get(end, steps) else {
             return Ok(());
         };
+        if steps.are_spent() {
+            *at = end;
+            return Err(Error::out_of_memory());
+        }
     }
     Ok(())
 }
@@ -161,7 +165,7 @@ fn put_turns<O: Objects>(
 /// Does the loop over these items that the instruction at a position opens, up to its end. The position becomes that of the last of
 /// its instructions.
 #[inline(never)]
-fn put_loop<'f, O: Objects>(
+fn put_loop<'f, O: Objects, T: Tally>(
     texts: &mut Texts,
     machine: &VirtualMachine<'_, O>,
     chunk: &Chunk,
@@ -169,7 +173,7 @@ fn put_loop<'f, O: Objects>(
     size: usize,
     items: &[Value],
     at: &mut usize,
-    steps: &mut Steps,
+    steps: &mut Steps<T>,
 ) -> Going<'f>
     requires there { slice_get chunk.now.code at.old ≡ Some opening.now }
     requires few { length chunk.now.code < 2 ^ 64 }
@@ -208,13 +212,13 @@ fn put_loop<'f, O: Objects>(
 impl<'c> Configuration<'c> {
     /// Does what the instruction says, and where it opens a loop whose body puts out texts and items alone, all of that loop.
     #[inline(never)]
-    pub(crate) fn start_or_execute<'f, O: Objects>(
+    pub(crate) fn start_or_execute<'f, O: Objects, T: Tally>(
         &mut self,
         machine: &VirtualMachine<'_, O>,
         chunk: &Chunk,
         at: &mut usize,
         opening: &LentInstruction<'f>,
-        steps: &mut Steps,
+        steps: &mut Steps<T>,
     ) -> Going<'f>
         requires there { slice_get chunk.now.code at.old ≡ Some opening.now }
         requires few { length chunk.now.code < 2 ^ 64 }

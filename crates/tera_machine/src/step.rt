@@ -15,24 +15,24 @@ use crate::configuration::Configuration;
 use crate::instructions::{Put, going_on, going_on_if};
 use crate::machine::{Flow, Going, VirtualMachine};
 use std::alloc::{AllocError, Global};
-use tera_code::{Chunk, LentInstruction, Steps};
+use tera_code::{Chunk, LentInstruction, Steps, Tally};
 use tera_objects::Objects;
 use tera_operators::Operand;
 use tera_state::Stack;
-use tera_values::{Name, Shape, Span, Value};
+use tera_values::{Error, Name, Shape, Span, Value};
 
 impl<'c> Configuration<'c> {
     /// Does the instruction that stands at this position, and what is done together with it. The position becomes that of the last of
     /// them. What is run most is told apart first, and needs no more of the instruction than its parts: all else stays out of the
-    /// loop, whose frame is small.
+    /// loop, whose frame is small. A budget that is spent ends the run, as want of memory does.
     #[inline(always)]
-    pub(crate) fn perform<'f, O: Objects>(
+    pub(crate) fn perform<'f, O: Objects, T: Tally>(
         &mut self,
         machine: &VirtualMachine<'_, O>,
         chunk: &Chunk,
         at: &mut usize,
         instruction: &LentInstruction<'f>,
-        steps: &mut Steps,
+        steps: &mut Steps<T>,
     ) -> Going<'f>
         requires there { slice_get chunk.now.code at.old ≡ Some instruction.now }
         requires few { length chunk.now.code < 2 ^ 64 }
@@ -45,6 +45,9 @@ impl<'c> Configuration<'c> {
         ensures does { Does (done (here_of O.engine machine.now chunk.now.file self.old)
             chunk.now.code (suc (steps.new - steps.old)) at.old) self.old result self.new }
     {
+        if steps.are_spent() {
+            return Err(Error::out_of_memory());
+        }
         if let Some(text) = instruction.as_text() {
             return going_on(self.write_text(text));
         }
@@ -69,13 +72,13 @@ impl<'c> Configuration<'c> {
     // The rest of these, whose flow is handed out in memory. It is asked for behind the others, so that no place for it is
     // made ready in their turns.
     #[inline(always)]
-    fn perform_on<'f, O: Objects>(
+    fn perform_on<'f, O: Objects, T: Tally>(
         &mut self,
         machine: &VirtualMachine<'_, O>,
         chunk: &Chunk,
         at: &mut usize,
         instruction: &LentInstruction<'f>,
-        steps: &mut Steps,
+        steps: &mut Steps<T>,
     ) -> Going<'f>
         requires there { slice_get chunk.now.code at.old ≡ Some instruction.now }
         requires few { length chunk.now.code < 2 ^ 64 }
@@ -99,13 +102,13 @@ impl<'c> Configuration<'c> {
 
     /// The same for an instruction that loads no name.
     #[inline(always)]
-    fn step<'f, O: Objects>(
+    fn step<'f, O: Objects, T: Tally>(
         &mut self,
         machine: &VirtualMachine<'_, O>,
         chunk: &Chunk,
         at: &mut usize,
         instruction: &LentInstruction<'f>,
-        steps: &mut Steps,
+        steps: &mut Steps<T>,
     ) -> Going<'f>
         requires there { slice_get chunk.now.code at.old ≡ Some instruction.now }
         requires few { length chunk.now.code < 2 ^ 64 }

@@ -3,6 +3,7 @@
 mod absent_calls;
 mod batches;
 mod blocks;
+mod budgets;
 mod built_ins;
 mod call_lists;
 mod cases;

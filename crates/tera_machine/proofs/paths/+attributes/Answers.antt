@@ -13,25 +13,25 @@ if_err (Ok a) f p = tt
 if_err (Err e) f p = f e p
 
 pub attributes-requires : goal.attributes-requires
-attributes-requires t c =
+attributes-requires g t c =
     (omega (arith, slice_get_within c.args.chunk.now.code (c.args.at.now + 1) _ c.in-Some.ensures.means, c.decreases), (c.requires.few, slice_get_within c.args.chunk.now.code (c.args.at.now + 1) _ c.in-Some.ensures.means))
 
 pub returns-in-Ok-clause-stands : goal.returns-in-Ok-clause-stands
-returns-in-Ok-clause-stands t c = λ s f r.
+returns-in-Ok-clause-stands g t c = λ s f r.
     c.attributes.ensures.stands s f (attribute_reached r c.in-Some.ensures.means refl c.in-Some.ensures.count f c.file.ensures c.as_str.ensures c.in-Ok.ensures.part)
 
 pub returns-in-Ok-clause-ok : goal.returns-in-Ok-clause-ok
-returns-in-Ok-clause-ok t c =
+returns-in-Ok-clause-ok g t c =
     if_ok c.attributes.result (λ o p s f r. p s f (attribute_reached r c.in-Some.ensures.means refl c.in-Some.ensures.count f c.file.ensures c.as_str.ensures c.in-Ok.ensures.part)) c.attributes.ensures.ok
 
 pub returns-in-Ok-clause-err : goal.returns-in-Ok-clause-err
-returns-in-Ok-clause-err t c =
+returns-in-Ok-clause-err g t c =
     if_err c.attributes.result (λ e p s f r. p s f (attribute_reached r c.in-Some.ensures.means refl c.in-Some.ensures.count f c.file.ensures c.as_str.ensures c.in-Ok.ensures.part)) c.attributes.ensures.err
 
 pub returns-in-Err-clause-stands : goal.returns-in-Err-clause-stands
-returns-in-Err-clause-stands t c = λ s f r.
+returns-in-Err-clause-stands g t c = λ s f r.
     more r c.in-Some.ensures.means refl c.in-Some.ensures.count
 
 pub returns-in-Err-clause-err : goal.returns-in-Err-clause-err
-returns-in-Err-clause-err t c = λ s f r.
+returns-in-Err-clause-err g t c = λ s f r.
     attribute_breaks r c.in-Some.ensures.means refl c.in-Some.ensures.count f c.file.ensures c.as_str.ensures c.in-Err.error c.in-Err.ensures.part

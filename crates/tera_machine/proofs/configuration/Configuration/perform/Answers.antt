@@ -1,6 +1,9 @@
 use Rattle.tera_machine.proofs.Reaching.{alone_stands}
 use Rattle.tera_machine.proofs.configuration.Configuration.perform.Goals as goal
 
+pub returns-then-are_spent-clause-stands : goal.returns-then-are_spent-clause-stands
+returns-then-are_spent-clause-stands g c = alone_stands _ c.requires.there
+
 pub returns-in-Some-clause-stands : goal.returns-in-Some-clause-stands
 returns-in-Some-clause-stands g c = alone_stands _ c.requires.there
 

@@ -1,4 +1,0 @@
-use Rattle.tera.proofs.engine.TeraOver.run_within.Given as goal
-
-abbrev pub ghost-run : goal.ghost-run
-ghost-run g a = g.about

@@ -105,9 +105,9 @@ module _ {s : Start} {code : Code} {at n : ℕ} {c : Config} (b : Before s code 
       record { counted = omega (arith, b.counted, m); led = led_behind s.here code (n2 - s.count) s.at s.config stands_before.led d (does_before ∙ f) ∙ o }
 
 -- and where memory is refused nothing is said of it
-pub lacking_breaks : {s : Start} {code : Code} {n : ℕ} (e : SeenError) → Lacks e → Breaks s code n e
-lacking_breaks None h = λ c. tt
-lacking_breaks (Some fault) h = (let q : Some fault ≡ None = h in cc)
+pub lacking_breaks : (s : Start) (code : Code) (n : ℕ) (e : SeenError) → Lacks e → Breaks s code n e
+lacking_breaks s code n None h = λ c. tt
+lacking_breaks s code n (Some fault) h = (let q : Some fault ≡ None = h in cc)
 
 -- behind the first instruction
 pub first_leads : {here : Here} {code : Code} {at n : ℕ} {c c2 : Config} (i : Instruction) → slice_get code at ≡ Some i → effect here (at + 1) i c ≡ Goes c2 On → Before (start_at here at n c) code (at + 1) n c2

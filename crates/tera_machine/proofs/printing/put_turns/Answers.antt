@@ -28,7 +28,7 @@ returns-then-are_spent-clause-err g c = λ s name counts d is p some b.
     let vs = c.args.items.now in
     let begun = subst (λ left. Turning s c.args.chunk.now.code c.args.start c.args.size c.loop-item.steps (items_called name counts) (length (unkeyed vs)) c.loop-item.item-index left (saying c.loop-item.texts.now d)) (drop-here vs c.loop-item.item-index c.item-item.result c.loop-item-test.true c.item-item.is) (c.loop-item.invariant.comes s name counts d is p some b) in
     let ended = c.in-Ok.ensures.ok s name (at_items (items_called name counts) (length (unkeyed vs)) c.loop-item.item-index c.args.start c.args.size (c.item-item.result ∷ drop (c.loop-item.item-index + 1) vs) d) is (parts_between name c.args.chunk.now.code c.args.start c.args.size p.parts) (item_found name counts (length (unkeyed vs)) c.loop-item.item-index c.item-item.result s.here.around d.run.vars p.uncounted) begun in
-    (stands_before ended p.ends c.in-Some.ensures.count, lacking_breaks c.out_of_memory.result c.out_of_memory.ensures)
+    (stands_before ended p.ends c.in-Some.ensures.count, lacking_breaks s c.args.chunk.now.code c.get.new.steps c.out_of_memory.result c.out_of_memory.ensures)
 
 pub returns-clause-ok : goal.returns-clause-ok
 returns-clause-ok g c = λ s name counts d is p some b.

@@ -2,7 +2,6 @@
 use Rattle.std.specs.Prelude.{◌≡◌, ◌≢◌, ℕ, Bool, true, false, ◌&&◌, ◌||◌, not, nat_eq, nat_lt, List, [], ◌∷◌, filter, Option, Some, None}
 use Rattle.std.specs.BTreeMap.{BTreeMap, get}
 use Rattle.std.specs.Option.{option_or}
-use Rattle.tera_values.specs.Val.{Val}
 use Rattle.tera_state.specs.Bound.{is_beyond, layer_of, position_from}
 use Rattle.tera_state.specs.LayerNames.{layer_name_cmp}
 use Rattle.tera_state.specs.declared.bindings.Binding.{Binding}

@@ -1,4 +1,4 @@
-use Rattle.std.proofs.Common.{rules, ◌≡◌, Some, OnOk, length, sym, subst, ap₂, ℕ}
+use Rattle.std.proofs.Common.{rules, ◌≡◌, Some, OnOk, length, sym, subst, ℕ}
 use Rattle.std.specs.BTreeMap.{Updates}
 use Rattle.tera_errors.specs.Site.{Name}
 use Rattle.tera_state.specs.LayerNames.{key, layer_name_cmp}

@@ -105,7 +105,7 @@ once-longer [] b h none = (refl, tt)
 once-longer (c ∷ cs) b h none =
     let parts = unfound (is_for b.frame b.layer b.name c) 0 (place_of (0 + 1) cs b) none in (
       behind 0 cs b c.frame c.layer c.name
-      ∙ ap₂ (λ (o : Option ℕ) (t : Bool). option_or o (if t then Some (0 + length cs) else None)) h.0 (turned b c ∙ parts.0),
+          ∙ ap₂ (λ (o : Option ℕ) (t : Bool). option_or o (if t then Some (0 + length cs) else None)) h.0 (turned b c ∙ parts.0),
       once-longer cs b h.1 (anywhere (0 + 1) 0 cs b.frame b.layer b.name parts.1),
     )
 

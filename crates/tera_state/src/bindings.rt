@@ -258,7 +258,12 @@ fn find<'a>(
     None
 }
 
-pub(crate) fn position(items: &[Binding], frame: usize, layer: usize, name: &Sought<'_>) -> Option<usize>
+pub(crate) fn position(
+    items: &[Binding],
+    frame: usize,
+    layer: usize,
+    name: &Sought<'_>,
+) -> Option<usize>
     ensures { result ≡ position_from 0 items.now frame layer name.now }
 {
     for (at, b) in items.iter().enumerate() {
@@ -269,7 +274,12 @@ pub(crate) fn position(items: &[Binding], frame: usize, layer: usize, name: &Sou
     None
 }
 
-pub(crate) fn put_layer(items: &[Binding], frame: usize, layer: usize, names: &mut Context) -> TeraResult<()>
+pub(crate) fn put_layer(
+    items: &[Binding],
+    frame: usize,
+    layer: usize,
+    names: &mut Context,
+) -> TeraResult<()>
     ensures ok { OnOk result (names.new ≡ put_all (layer_of items.now frame layer) names.old) }
     ensures lacks { IfErr result Lacks }
 {

@@ -21,8 +21,8 @@ returns c =
     let is_ordered = c.self-2.inside.is_ordered in
     let whole : outside part items ≡ outside part c.args.self.now = ap (outside part) c.self-2.view_is ∙ c.loop-self.invariant in
     let kept : c.if-not-ends_before.self-inside.items.items ≡ outside part c.args.self.now =
-      elim c.if-not-ends_before.branch [
-        then-not-ends_before w ↦
+    elim c.if-not-ends_before.branch [
+      | then-not-ends_before w ↦
           ap (λ m. m.items.items) w.self-inside-is
           ∙ filter_same _ (λ (b : Binding). is_outside part b.frame b.layer) _ (λ x b f k. search rules) _ _ w.retain.ensures.filtered
           ∙ whole
@@ -32,8 +32,8 @@ returns c =
           (ap (λ (bs : List Binding). ends_before is_ordered part (last_layer bs)) (sym c.as_slice-2.ensures.value) ∙ sym c.ends_before.ensures ∙ w.if-not-ends_before.false)
           (λ t. (c.self-2.invariant t).0))
           ∙ whole
-      ] in
+    ] in
     elim c.if-is_empty.branch [
-      then-is_empty w ↦ ap (λ m. m.items.items) w.self-inside-is ∙ kept
-    | else-is_empty w ↦ ap (λ m. m.items.items) w.self-inside-is ∙ kept
+      | then-is_empty w ↦ ap (λ m. m.items.items) w.self-inside-is ∙ kept
+      | else-is_empty w ↦ ap (λ m. m.items.items) w.self-inside-is ∙ kept
     ]

@@ -13,8 +13,8 @@ if_err (Ok a) f p = tt
 if_err (Err e) f p = f e p
 
 pub attributes-requires : goal.attributes-requires
-attributes-requires g t c =
-    (omega (arith, slice_get_within c.args.chunk.now.code (c.args.at.now + 1) _ c.in-Some.ensures.means, c.decreases), (c.requires.few, slice_get_within c.args.chunk.now.code (c.args.at.now + 1) _ c.in-Some.ensures.means))
+attributes-requires g t c κs within =
+    (omega (arith, slice_get_within c.args.chunk.now.code (c.args.at.now + 1) _ c.in-Some.ensures.means, c.decreases), (within, (c.requires.few, slice_get_within c.args.chunk.now.code (c.args.at.now + 1) _ c.in-Some.ensures.means)))
 
 pub returns-in-Ok-clause-stands : goal.returns-in-Ok-clause-stands
 returns-in-Ok-clause-stands g t c = λ s f r.

@@ -19,8 +19,8 @@ pub none_more : (before n : ℕ) → before + n < before → ⊥
 none_more before n h = omega (arith, h)
 
 -- a text that was read takes more only where its tree does
-pub text_more : (r : Registry) (text : Text) (context : Named Val) (autoescape : Bool) (tree : Tree) (n : ℕ) {before after : ℕ} → Reads one_off_name r.delimiters text (Ok tree) → after ≤ before + 8 * visits_meant (subject_beside r tree context autoescape) → before + n < after → TextTakesMore r text context autoescape n
-text_more r text context autoescape tree n read few h =
+pub text_more : (r : Registry) (text : Text) (context : Named Val) (autoescape : Bool) (tree : Tree) (before after n : ℕ) → Reads one_off_name r.delimiters text (Ok tree) → after ≤ before + 8 * visits_meant (subject_beside r tree context autoescape) → before + n < after → TextTakesMore r text context autoescape n
+text_more r text context autoescape tree before after n read few h =
     record { tree = tree; read = read; more = omega (arith, few, h) }
 
 -- an answer that is left out where the steps are spent

@@ -5,10 +5,24 @@ ghost use Rattle.tera.specs.Lent.{lent_text};
 ghost use Rattle.tera.specs.Rendering.{ByName, ComponentByName, OneOff};
 
 use crate::engine::TeraOver;
+use crate::rendering::Source;
 use std::marker::Brand;
 use tera_code::{Allowance, Budget, Steps, Tally};
 use tera_objects::Objects;
 use tera_values::{Context, TeraResult};
+
+/// The name of a template. A function whose ghost members a call picks takes no `&str` itself.
+#[derive(Clone, Copy)]
+struct TemplateName<'a> {
+    name: &'a str,
+}
+
+/// The name of a component, and the body that it is called with.
+#[derive(Clone, Copy)]
+struct ComponentCall<'a> {
+    name: &'a str,
+    body: Option<&'a str>,
+}
 
 impl<O: Objects> TeraOver<O> {
     ghost use Rattle.tera.specs.Registry.{registry_of};
@@ -25,7 +39,7 @@ impl<O: Objects> TeraOver<O> {
             (ByName (registry_of O.engine self.now) name.now context.now)
             (steps < 8 * template_visits (registry_of O.engine self.now) name.now context.now) }
     {
-        self.template_within::<Brand>(name, context, steps)
+        self.template_within::<Brand>(TemplateName { name }, context, steps)
     }
 
     /// Answers what `render_str` answers, or nothing where that takes more than so many steps: eight times the visits of what the
@@ -41,7 +55,7 @@ impl<O: Objects> TeraOver<O> {
             (OneOff (registry_of O.engine self.now) input.now context.now autoescape)
             (TextTakesMore (registry_of O.engine self.now) input.now context.now autoescape steps) }
     {
-        self.text_within::<Brand>(input, context, autoescape, steps)
+        self.text_within::<Brand>(Source { text: input }, context, autoescape, steps)
     }
 
     /// Answers what `render_component` answers, or nothing where that takes more than so many steps: eight times the visits of what
@@ -61,61 +75,70 @@ impl<O: Objects> TeraOver<O> {
             (steps < 8 * component_visits (registry_of O.engine self.now) name.now
             args.now implicits.now (lent_text body.entry) autoescape) }
     {
-        self.component_within::<Brand>(name, args, implicits, body, autoescape, steps)
+        self.component_within::<Brand>(
+            ComponentCall { name, body },
+            args,
+            implicits,
+            autoescape,
+            steps,
+        )
     }
 
     // What a budget of the type allows is a number that its caller names.
     fn template_within<L: Allowance>(
         &self,
-        name: &str,
+        template: TemplateName<'_>,
         context: &Context,
         limit: usize,
     ) -> TeraResult<Option<String>>
         requires { limit ≡ L.allowed }
         ensures { GivesWithin string_bytes result
-            (ByName (registry_of O.engine self.now) name.now context.now)
-            (limit < 8 * template_visits (registry_of O.engine self.now) name.now context.now) }
+            (ByName (registry_of O.engine self.now) template.entry.name.now context.now)
+            (limit < 8 * template_visits (registry_of O.engine self.now)
+            template.entry.name.now context.now) }
     {
         let mut steps: Steps<Budget<L>> = Steps::within(limit);
-        let answer = self.render_template(name, context, &mut steps);
+        let answer = self.render_template(template.name, context, &mut steps);
         unless_spent(answer, &steps)
     }
 
     fn text_within<L: Allowance>(
         &self,
-        input: &str,
+        source: Source<'_>,
         context: &Context,
         autoescape: bool,
         limit: usize,
     ) -> TeraResult<Option<String>>
         requires { limit ≡ L.allowed }
         ensures { GivesWithin string_bytes result
-            (OneOff (registry_of O.engine self.now) input.now context.now autoescape)
-            (TextTakesMore (registry_of O.engine self.now) input.now context.now autoescape limit) }
+            (OneOff (registry_of O.engine self.now) source.entry.text.now context.now autoescape)
+            (TextTakesMore (registry_of O.engine self.now) source.entry.text.now context.now
+            autoescape limit) }
     {
         let mut steps: Steps<Budget<L>> = Steps::within(limit);
-        let answer = self.render_text(input, context, autoescape, &mut steps);
+        let answer = self.render_text(source.text, context, autoescape, &mut steps);
         unless_spent(answer, &steps)
     }
 
     fn component_within<L: Allowance>(
         &self,
-        name: &str,
+        call: ComponentCall<'_>,
         args: &Context,
         implicits: &Context,
-        body: Option<&str>,
         autoescape: bool,
         limit: usize,
     ) -> TeraResult<Option<String>>
         requires { limit ≡ L.allowed }
         ensures { GivesWithin string_bytes result
-            (ComponentByName (registry_of O.engine self.now) name.now
-            args.now implicits.now (lent_text body.entry) autoescape)
-            (limit < 8 * component_visits (registry_of O.engine self.now) name.now
-            args.now implicits.now (lent_text body.entry) autoescape) }
+            (ComponentByName (registry_of O.engine self.now) call.entry.name.now
+            args.now implicits.now (lent_text call.entry.body) autoescape)
+            (limit < 8 * component_visits (registry_of O.engine self.now) call.entry.name.now
+            args.now implicits.now (lent_text call.entry.body) autoescape) }
     {
         let mut steps: Steps<Budget<L>> = Steps::within(limit);
-        let answer = self.render_by_call(name, args, implicits, body, autoescape, &mut steps);
+        let answer = self.render_by_call(
+            call.name, args, implicits, call.body, autoescape, &mut steps,
+        );
         unless_spent(answer, &steps)
     }
 }

@@ -28,8 +28,8 @@ pub(crate) const ONE_OFF: &str = "__tera_one_off";
 
 /// A text beside the templates, as it stands. A function with a ghost value takes no `&str` itself.
 #[derive(Clone, Copy)]
-struct Source<'a> {
-    text: &'a str,
+pub(crate) struct Source<'a> {
+    pub(crate) text: &'a str,
 }
 
 impl<O: Objects> TeraOver<O> {

@@ -34,4 +34,4 @@ returns-in-Ok-allow-clause-means g c =
 
 pub returns-in-Ok-allow-clause-few : goal.returns-in-Ok-allow-clause-few
 returns-in-Ok-allow-clause-few g c = λ n h.
-    text_more (registry_of g.O.Objects.engine c.args.self.now) c.args.input.now c.args.context.now c.args.autoescape (tree_of c.in-Ok.output) n c.in-Ok.ensures.reads c.render_output.ensures.few h
+    text_more (registry_of g.O.Objects.engine c.args.self.now) c.args.input.now c.args.context.now c.args.autoescape (tree_of c.in-Ok.output) c.args.steps.now _ n c.in-Ok.ensures.reads c.render_output.ensures.few h

@@ -15,19 +15,12 @@ into_string-requires g c =
 pub returns-in-Err-clause-means : goal.returns-in-Err-clause-means
 returns-in-Err-clause-means g c =
     let start = c.new-configuration in
-    let same = begins-means g.about start.result (variables_of c.args.scopes) start.ensures.starts c.requires.1.1.1.1.1.1.0 in
+    let same = begins-means g.about start.result (variables_of c.args.scopes) start.ensures.starts c.requires.1.1.1.1.1.1.1.0 in
     fault-means (meant g.about (begun nothing_set)) c.in-Err.error _ _ (rw same at c.in-Err.ensures.means)
 
 pub returns-in-Err-clause-few : goal.returns-in-Err-clause-few
 returns-in-Err-clause-few g c =
     let start = c.new-configuration in
-    let same = begins-means g.about start.result (variables_of c.args.scopes) start.ensures.starts c.requires.1.1.1.1.1.1.0 in
+    let same = begins-means g.about start.result (variables_of c.args.scopes) start.ensures.starts c.requires.1.1.1.1.1.1.1.0 in
     let P : Answer Signal → Type 0 = λ a. c.run.new.steps ≤ c.args.steps.now + 8 * visits_of a in
     subst P same c.in-Err.ensures.few
-
-pub returns-clause-few : goal.returns-clause-few
-returns-clause-few g c =
-    let start = c.new-configuration in
-    let same = begins-means g.about start.result (variables_of c.args.scopes) start.ensures.starts c.requires.1.1.1.1.1.1.0 in
-    let P : Answer Signal → Type 0 = λ a. c.run.new.steps ≤ c.args.steps.now + 8 * visits_of a in
-    subst P same c.in-Ok.ensures.few

@@ -57,7 +57,7 @@ const FILES: [(&str, &str); 6] = [
         "{% component Card(...rest) %}[{{ rest.name }}]{% endcomponent %}\
         {% component Wrong(...rest) %}a{{ nope }}{% endcomponent %}\
         {% component Endless(...rest) %}{% for i in range(end=100000) %}{% for j in range(end=100000) %}\
-        {{ <Card/> }}{% endfor %}{% endfor %}{% endcomponent %}",
+        {{ <Card name={i}/> }}{% endfor %}{% endfor %}{% endcomponent %}",
     ),
 ];
 

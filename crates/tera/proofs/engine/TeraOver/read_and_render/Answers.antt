@@ -1,4 +1,4 @@
-use Rattle.std.proofs.Common.{◌+◌, ◌<◌, arith, Global, Result, string_bytes, subst}
+use Rattle.std.proofs.Common.{Global, Result, string_bytes, subst}
 use Rattle.tera_errors.specs.Site.{Text}
 use Rattle.tera_errors.specs.Fault.{Fault}
 use Rattle.tera_errors.specs.Answer.{Gives}

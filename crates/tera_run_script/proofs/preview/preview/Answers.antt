@@ -1,7 +1,7 @@
-use Rattle.std.proofs.Common.{◌≡◌, Ok, List, ℕ, map, string_bytes, codes, Global, String, sym, ap, ◌∙◌}
+use Rattle.std.proofs.Common.{◌≡◌, Ok, map, string_bytes, codes, Global, String, sym, ap, ◌∙◌}
 use Rattle.tera.specs.Registry.{registry_of}
 use Rattle.tera.specs.Site.{Name, Text}
-use Rattle.tera_run_script.specs.Preview.{shown, Previews}
+use Rattle.tera_run_script.specs.Preview.{shown}
 use Rattle.tera_run_script.proofs.Joining.{join_by-map, join_by-same}
 use Rattle.tera_run_script.proofs.preview.preview.Goals as goal
 

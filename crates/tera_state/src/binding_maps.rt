@@ -107,7 +107,7 @@ impl BindingMaps {
         }
     }
 
-    // The same where something is bound. It takes the layer in two parts, which lie in no memory where nothing is.
+    // The same where something is bound. It stands by itself, so that a turn which binds nothing makes no `Part`.
     #[inline(never)]
     fn clear_bound(&mut self, frame: usize, layer: usize)
         ensures { self.new ≡ without self.old frame layer }

@@ -51,42 +51,72 @@ pub enum BuiltInFilter {
 }
 
 impl BuiltInFilter {
-    /// The one with this name, if there is one.
+    /// The one with this name, if there is one. Only names of its length are compared with it.
     pub fn named(name: &str) -> Option<BuiltInFilter>
         ensures { result ≡ filter_named name.now }
     {
-        match name {
-            "safe" => Some(BuiltInFilter::Safe),
-            "default" => Some(BuiltInFilter::Default),
-            "wordcount" => Some(BuiltInFilter::Wordcount),
-            "escape" => Some(BuiltInFilter::Escape),
-            "escape_html" => Some(BuiltInFilter::EscapeHtml),
-            "escape_xml" => Some(BuiltInFilter::EscapeXml),
-            "newlines_to_br" => Some(BuiltInFilter::NewlinesToBr),
-            "pluralize" => Some(BuiltInFilter::Pluralize),
-            "trim" => Some(BuiltInFilter::Trim),
-            "trim_start" => Some(BuiltInFilter::TrimStart),
-            "trim_end" => Some(BuiltInFilter::TrimEnd),
-            "replace" => Some(BuiltInFilter::Replace),
-            "truncate" => Some(BuiltInFilter::Truncate),
-            "indent" => Some(BuiltInFilter::Indent),
-            "str" => Some(BuiltInFilter::Str),
-            "int" => Some(BuiltInFilter::Int),
-            "length" => Some(BuiltInFilter::Length),
-            "reverse" => Some(BuiltInFilter::Reverse),
-            "split" => Some(BuiltInFilter::Split),
-            "abs" => Some(BuiltInFilter::Abs),
-            "first" => Some(BuiltInFilter::First),
-            "last" => Some(BuiltInFilter::Last),
-            "nth" => Some(BuiltInFilter::Nth),
-            "join" => Some(BuiltInFilter::Join),
-            "sort" => Some(BuiltInFilter::Sort),
-            "unique" => Some(BuiltInFilter::Unique),
-            "values" => Some(BuiltInFilter::Values),
-            "keys" => Some(BuiltInFilter::Keys),
-            "pairs" => Some(BuiltInFilter::Pairs),
-            "get" => Some(BuiltInFilter::Get),
-            "group_by" => Some(BuiltInFilter::GroupBy),
+        match name.len() {
+            3 => match name {
+                "str" => Some(BuiltInFilter::Str),
+                "int" => Some(BuiltInFilter::Int),
+                "abs" => Some(BuiltInFilter::Abs),
+                "nth" => Some(BuiltInFilter::Nth),
+                "get" => Some(BuiltInFilter::Get),
+                _ => None,
+            },
+            4 => match name {
+                "safe" => Some(BuiltInFilter::Safe),
+                "trim" => Some(BuiltInFilter::Trim),
+                "last" => Some(BuiltInFilter::Last),
+                "join" => Some(BuiltInFilter::Join),
+                "sort" => Some(BuiltInFilter::Sort),
+                "keys" => Some(BuiltInFilter::Keys),
+                _ => None,
+            },
+            5 => match name {
+                "split" => Some(BuiltInFilter::Split),
+                "first" => Some(BuiltInFilter::First),
+                "pairs" => Some(BuiltInFilter::Pairs),
+                _ => None,
+            },
+            6 => match name {
+                "escape" => Some(BuiltInFilter::Escape),
+                "indent" => Some(BuiltInFilter::Indent),
+                "length" => Some(BuiltInFilter::Length),
+                "unique" => Some(BuiltInFilter::Unique),
+                "values" => Some(BuiltInFilter::Values),
+                _ => None,
+            },
+            7 => match name {
+                "default" => Some(BuiltInFilter::Default),
+                "replace" => Some(BuiltInFilter::Replace),
+                "reverse" => Some(BuiltInFilter::Reverse),
+                _ => None,
+            },
+            8 => match name {
+                "trim_end" => Some(BuiltInFilter::TrimEnd),
+                "truncate" => Some(BuiltInFilter::Truncate),
+                "group_by" => Some(BuiltInFilter::GroupBy),
+                _ => None,
+            },
+            9 => match name {
+                "wordcount" => Some(BuiltInFilter::Wordcount),
+                "pluralize" => Some(BuiltInFilter::Pluralize),
+                _ => None,
+            },
+            10 => match name {
+                "escape_xml" => Some(BuiltInFilter::EscapeXml),
+                "trim_start" => Some(BuiltInFilter::TrimStart),
+                _ => None,
+            },
+            11 => match name {
+                "escape_html" => Some(BuiltInFilter::EscapeHtml),
+                _ => None,
+            },
+            14 => match name {
+                "newlines_to_br" => Some(BuiltInFilter::NewlinesToBr),
+                _ => None,
+            },
             _ => None,
         }
     }

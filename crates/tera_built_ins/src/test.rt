@@ -30,27 +30,60 @@ pub enum BuiltInTest {
 }
 
 impl BuiltInTest {
-    /// The one with this name, if there is one.
+    /// The one with this name, if there is one. Only names of its length are compared with it.
     pub fn named(name: &str) -> Option<BuiltInTest>
         ensures { result ≡ test_named name.now }
     {
-        match name {
-            "string" => Some(BuiltInTest::String),
-            "number" => Some(BuiltInTest::Number),
-            "map" => Some(BuiltInTest::Map),
-            "bool" => Some(BuiltInTest::Bool),
-            "array" => Some(BuiltInTest::Array),
-            "integer" => Some(BuiltInTest::Integer),
-            "none" => Some(BuiltInTest::None),
-            "iterable" => Some(BuiltInTest::Iterable),
-            "defined" => Some(BuiltInTest::Defined),
-            "undefined" => Some(BuiltInTest::Undefined),
-            "odd" => Some(BuiltInTest::Odd),
-            "even" => Some(BuiltInTest::Even),
-            "divisible_by" => Some(BuiltInTest::DivisibleBy),
-            "starting_with" => Some(BuiltInTest::StartingWith),
-            "ending_with" => Some(BuiltInTest::EndingWith),
-            "containing" => Some(BuiltInTest::Containing),
+        match name.len() {
+            3 => match name {
+                "map" => Some(BuiltInTest::Map),
+                "odd" => Some(BuiltInTest::Odd),
+                _ => None,
+            },
+            4 => match name {
+                "bool" => Some(BuiltInTest::Bool),
+                "none" => Some(BuiltInTest::None),
+                "even" => Some(BuiltInTest::Even),
+                _ => None,
+            },
+            5 => match name {
+                "array" => Some(BuiltInTest::Array),
+                _ => None,
+            },
+            6 => match name {
+                "string" => Some(BuiltInTest::String),
+                "number" => Some(BuiltInTest::Number),
+                _ => None,
+            },
+            7 => match name {
+                "integer" => Some(BuiltInTest::Integer),
+                "defined" => Some(BuiltInTest::Defined),
+                _ => None,
+            },
+            8 => match name {
+                "iterable" => Some(BuiltInTest::Iterable),
+                _ => None,
+            },
+            9 => match name {
+                "undefined" => Some(BuiltInTest::Undefined),
+                _ => None,
+            },
+            10 => match name {
+                "containing" => Some(BuiltInTest::Containing),
+                _ => None,
+            },
+            11 => match name {
+                "ending_with" => Some(BuiltInTest::EndingWith),
+                _ => None,
+            },
+            12 => match name {
+                "divisible_by" => Some(BuiltInTest::DivisibleBy),
+                _ => None,
+            },
+            13 => match name {
+                "starting_with" => Some(BuiltInTest::StartingWith),
+                _ => None,
+            },
             _ => None,
         }
     }

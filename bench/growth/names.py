@@ -6,8 +6,8 @@ def ordered(name, size, script, orders="scattered", collide=0, may=""):
     """A row for each order of names. Where they collide, so many are enough to tell, and that row may be over for this reason."""
 
     def row(order):
-        is_last = order == "colliding"
-        return Row(f"{name}, {order}", collide if is_last and collide else size, lambda count: script(ORDERS[order](count)), may=may if is_last else "")
+        collides = order == "colliding"
+        return Row(f"{name}, {order}", collide if collides and collide else size, lambda count: script(ORDERS[order](count)), may=may if collides else "")
 
     return [row(order) for order in orders.split()]
 

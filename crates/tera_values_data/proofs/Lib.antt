@@ -1,3 +1,4 @@
+pub mod Backward
 pub mod Stretches
 pub mod Lanes
 pub mod Keys

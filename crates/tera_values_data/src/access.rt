@@ -1,22 +1,16 @@
 // What is asked of a value as a whole.
-ghost use Rattle.std.specs.Prelude.{◌≡◌, Ok, length, option_copied, IsOk};
-ghost use Rattle.std.specs.Str.{chars};
+ghost use Rattle.std.specs.Prelude.{◌≡◌, Ok, option_copied, IsOk};
 ghost use Rattle.tera_errors.specs.Prelude.{Gives};
 ghost use Rattle.tera_values_data.specs.View.{key_view};
 ghost use Rattle.tera_values_data.specs.Access.{IsScalar, is_undefined, is_safe, kind_of, kind_name, int_of, text_of, truthy, count, key_of, value_of_key, attr};
 
+use crate::ascii::char_count;
 use crate::key::Key;
 use crate::refusals::no_key;
 use crate::shape::Shape;
 use crate::value::{Value, ValueKind};
 use std::alloc::Global;
 use tera_errors::TeraResult;
-
-pub(crate) fn char_count(text: &str) -> usize
-    ensures { result ≡ length (chars text.now) }
-{
-    text.chars().count()
-}
 
 impl Value {
     /// Which of the eight kinds the value is of.

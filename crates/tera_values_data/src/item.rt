@@ -6,7 +6,7 @@ ghost use Rattle.tera_values_data.specs.View.{wanted_view};
 ghost use Rattle.tera_values_data.specs.Access.{IsScalar, find, key_of};
 ghost use Rattle.tera_values_data.specs.Items.{position_of, char_text, item_at, byte_at, char_from, found_at, or_undefined, get_item};
 
-use crate::access::char_count;
+use crate::ascii::char_count;
 use crate::key::Wanted;
 use crate::refusals::{no_key, no_position, without_items};
 use crate::shape::Shape;

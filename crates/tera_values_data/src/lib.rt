@@ -2,6 +2,7 @@
 #![tactic(auto)]
 
 pub mod access;
+mod ascii;
 pub mod contains;
 pub mod copy;
 pub mod escape;

@@ -4,6 +4,7 @@ ghost use Rattle.std.specs.Str.{chars, encode_utf8_all};
 ghost use Rattle.tera_errors.specs.Prelude.{Gives};
 ghost use Rattle.tera_values_data.specs.Slices.{before, through, bound, upward, downward, positions, picked_items, picked_chars, slice, reversed};
 
+use crate::ascii::reversed_bytes;
 use crate::refusals::{without_order, without_slices};
 use crate::shape::Shape;
 use crate::value::Value;
@@ -128,6 +129,9 @@ fn reversed_items(alloc: Global, items: &[Value]) -> TeraResult<Vec<Value>>
 fn reversed_text(alloc: Global, content: &str) -> TeraResult<String>
     ensures { Gives string_bytes result (Ok (encode_utf8_all (reverse (chars content.now)))) }
 {
+    if content.is_ascii() {
+        return reversed_bytes(alloc, content);
+    }
     let letters = letters(alloc, content)?;
     let mut backward = String::new(alloc);
     let mut left = letters.len();

@@ -3,7 +3,6 @@ use Rattle.std.specs.Prelude.{List, [], Option, Some, None, Box, string_bytes}
 use Rattle.std.specs.Global.{Global}
 use Rattle.std.proofs.Common.{map as map_list}
 use Rattle.tera_values_data.specs.Val.{Val, KeyVal, kbool, kint, ktext, undefined, none, bool, int, text, bytes, array, map, vals, entries}
-use Rattle.std.specs.Rc.{rc_str_bytes}
 use Rattle.tera_values_data.specs.declared.key.Key.{Key}
 use Rattle.tera_values_data.specs.declared.key.Key.TheVariants as key
 use Rattle.tera_values_data.specs.declared.key.Wanted.{Wanted}
@@ -27,7 +26,8 @@ node_view node.Undefined = undefined
 node_view node.None = none
 node_view (node.Bool b) = bool b
 node_view (node.Int z) = int z
-node_view (node.Text t safe) = text (rc_str_bytes t) safe
+node_view (node.Short safe t) = text t.bytes safe
+node_view (node.Text safe t) = text (string_bytes t.value) safe
 node_view (node.Bytes b) = bytes b.value.items
 node_view (node.Array vs) = array (vals vs.items)
 node_view (node.Shared vs) = array (vals vs.value.items)

@@ -28,8 +28,11 @@ impl Value {
             Node::Int(number) => Ok(Value {
                 node: Node::Int(*number),
             }),
-            Node::Text(content, safe) => Ok(Value {
-                node: Node::Text(content.clone()?, *safe),
+            Node::Short(safe, content) => Ok(Value {
+                node: Node::Short(*safe, *content),
+            }),
+            Node::Text(safe, content) => Ok(Value {
+                node: Node::Text(*safe, content.clone()?),
             }),
             Node::Bytes(content) => Ok(Value {
                 node: Node::Bytes(content.clone()?),

@@ -44,7 +44,7 @@ fn char_value(alloc: Global, character: char) -> TeraResult<Value>
 {
     let mut out = String::new(alloc);
     out.push(character)?;
-    Value::string(alloc, out.as_str())
+    Value::from_string(alloc, out, false)
 }
 
 fn item_in(items: &[Value], index: i128) -> TeraResult<Value>

@@ -195,7 +195,7 @@ impl Value {
             Shape::Array(items) => Ok(Value::array(slice_items(alloc, items, start, end, step)?)),
             Shape::Text(content, _) => {
                 let part = slice_text(alloc, content, start, end, step)?;
-                Value::string(alloc, part.as_str())
+                Value::from_string(alloc, part, false)
             }
             _ => Err(without_slices(alloc, self)),
         }
@@ -209,7 +209,7 @@ impl Value {
             Shape::Array(items) => Ok(Value::array(reversed_items(alloc, items)?)),
             Shape::Text(content, _) => {
                 let backward = reversed_text(alloc, content)?;
-                Value::string(alloc, backward.as_str())
+                Value::from_string(alloc, backward, false)
             }
             _ => Err(without_order(alloc, self)),
         }

@@ -1,5 +1,5 @@
 // What a value is, and how it is kept.
-ghost use Rattle.std.specs.Prelude.{◌≡◌, false, true, Ok};
+ghost use Rattle.std.specs.Prelude.{◌≡◌, false, true, Ok, string_bytes};
 ghost use Rattle.tera_errors.specs.Prelude.{Gives};
 ghost use Rattle.tera_values_data.specs.Val.{Val, bool, bytes, array, map, undefined, none, int, text, vals, entries};
 ghost use Rattle.tera_values_data.specs.Access.{marked};
@@ -7,9 +7,10 @@ ghost use Rattle.tera_values_data.specs.View.{node_view};
 
 use crate::key::Key;
 use crate::key_order::KeyOrder;
+use arrayvec::ArrayString;
 use std::alloc::Global;
 use std::marker::Model;
-use std::rc::{Rc, RcStr};
+use std::rc::Rc;
 use tera_errors::TeraResult;
 
 /// The kinds of values.
@@ -25,7 +26,7 @@ pub enum ValueKind {
     Map,
 }
 
-/// A value of a template. A copy of a text, of bytes and of what is in shared form is a count.
+/// A value of a template. A copy of a long text, of bytes and of what is in shared form is a count.
 #[cycle(value)]
 pub struct Value {
     pub(crate) node: Node,
@@ -39,7 +40,7 @@ impl Drop for Value {
     fn drop(self) {
         let Value { node } = self;
         match node {
-            Node::Undefined | Node::None | Node::Bool(_) | Node::Int(_) => {}
+            Node::Undefined | Node::None | Node::Bool(_) | Node::Int(_) | Node::Short(_, _) => {}
             node => drop(node),
         }
     }
@@ -53,7 +54,9 @@ pub(crate) enum Node {
     None,
     Bool(bool),
     Int(i128),
-    Text(RcStr, bool),
+    /// A text of few bytes, which takes no memory.
+    Short(bool, ArrayString<16>),
+    Text(bool, Rc<String>),
     Bytes(Rc<Vec<u8>>),
     Array(Vec<Value>),
     Shared(Rc<Vec<Value>>),
@@ -188,9 +191,7 @@ impl Value {
     pub fn string(alloc: Global, content: &str) -> TeraResult<Value>
         ensures { Gives (λ v. v) result (Ok (text content.now false)) }
     {
-        Ok(Value {
-            node: Node::Text(RcStr::from_str(alloc, content)?, false),
-        })
+        Value::text(alloc, content, false)
     }
 
     /// A text that is taken as markup already: it goes out as it is.
@@ -198,8 +199,38 @@ impl Value {
     pub fn safe_string(alloc: Global, content: &str) -> TeraResult<Value>
         ensures { Gives (λ v. v) result (Ok (text content.now true)) }
     {
+        Value::text(alloc, content, true)
+    }
+
+    /// A text whose buffer the value keeps, where it is long.
+    pub fn from_string(alloc: Global, content: String, is_safe: bool) -> TeraResult<Value>
+        ensures { Gives (λ v. v) result (Ok (text (string_bytes content) is_safe)) }
+    {
+        match ArrayString::from(content.as_str()) {
+            Ok(short) => Ok(Value {
+                node: Node::Short(is_safe, short),
+            }),
+            Err(_) => Value::long_text(alloc, content, is_safe),
+        }
+    }
+
+    fn text(alloc: Global, content: &str, is_safe: bool) -> TeraResult<Value>
+        ensures { Gives (λ v. v) result (Ok (text content.now is_safe)) }
+    {
+        match ArrayString::from(content) {
+            Ok(short) => Ok(Value {
+                node: Node::Short(is_safe, short),
+            }),
+            Err(_) => Value::long_text(alloc, String::from_str(alloc, content)?, is_safe),
+        }
+    }
+
+    #[inline(never)]
+    fn long_text(alloc: Global, content: String, is_safe: bool) -> TeraResult<Value>
+        ensures { Gives (λ v. v) result (Ok (text (string_bytes content) is_safe)) }
+    {
         Ok(Value {
-            node: Node::Text(RcStr::from_str(alloc, content)?, true),
+            node: Node::Text(is_safe, Rc::new(alloc, content)?),
         })
     }
 
@@ -243,8 +274,11 @@ impl Value {
         ensures { result ≡ marked self }
     {
         match self.into_node() {
-            Node::Text(content, _) => Value {
-                node: Node::Text(content, true),
+            Node::Short(_, content) => Value {
+                node: Node::Short(true, content),
+            },
+            Node::Text(_, content) => Value {
+                node: Node::Text(true, content),
             },
             node => Value { node },
         }

@@ -1,7 +1,6 @@
 -- Texts of ASCII alone, and those texts backwards.
 use Rattle.std.proofs.Common.{◌≡◌, ℕ, ◌<◌, List, IsAscii, reverse, ap, ◌∙◌}
 use Rattle.std.specs.Str.{chars, encode_utf8_all}
-use Rattle.std.specs.List.Sorted.{IsPermutation}
 use Rattle.std.proofs.lemmas.List.Sorted.{All-permutation, IsPermutation-reverse}
 use Rattle.std.proofs.lemmas.Str.{chars-IsAscii, encodes-IsAscii}
 use Rattle.std.proofs.lemmas.Str.Ascii.{All-from_ascii, IsAscii-from_all}

@@ -1,5 +1,5 @@
 // What a value is, and how it is kept.
-ghost use Rattle.std.specs.Prelude.{◌≡◌, false, true, Ok, string_bytes};
+ghost use Rattle.std.specs.Prelude.{◌≡◌, ◌++◌, false, true, Ok, string_bytes};
 ghost use Rattle.tera_errors.specs.Prelude.{Gives};
 ghost use Rattle.tera_values_data.specs.Val.{Val, bool, bytes, array, map, undefined, none, int, text, vals, entries};
 ghost use Rattle.tera_values_data.specs.Access.{marked};
@@ -223,6 +223,23 @@ impl Value {
             }),
             Err(_) => Value::long_text(alloc, String::from_str(alloc, content)?, is_safe),
         }
+    }
+
+    /// The two texts as one, in a buffer of the right size.
+    pub fn joined(alloc: Global, left: &str, right: &str, is_safe: bool) -> TeraResult<Value>
+        ensures { Gives (λ v. v) result (Ok (text (left.now ++ right.now) is_safe)) }
+    {
+        let mut short = ArrayString::new();
+        if short.try_push_str(left).is_ok() && short.try_push_str(right).is_ok() {
+            return Ok(Value {
+                node: Node::Short(is_safe, short),
+            });
+        }
+        let length = left.len().saturating_add(right.len());
+        let mut long = String::with_capacity(alloc, length)?;
+        long.push_str(left)?;
+        long.push_str(right)?;
+        Value::long_text(alloc, long, is_safe)
     }
 
     #[inline(never)]

@@ -1,4 +1,4 @@
-use Rattle.std.proofs.Common.{◌≡◌, List, ℕ, IsUtf8, reverse, false, true, subst, sym, ap, ◌∙◌}
+use Rattle.std.proofs.Common.{◌≡◌, IsUtf8, reverse, false, true, subst, sym, ap, ◌∙◌}
 use Rattle.std.proofs.lemmas.Str.{IsUtf8-from_ascii}
 use Rattle.tera_values_data.proofs.Backward.{ascii_backward}
 use Rattle.tera_values_data.proofs.ascii.reversed_bytes.Goals as goal

@@ -27,6 +27,7 @@ pub mod Join
 pub mod Attributes
 pub mod Sorting
 pub mod Laws
+pub mod SortKeys
 pub mod Ranks
 pub mod Groups
 pub mod Gathering

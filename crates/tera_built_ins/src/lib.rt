@@ -23,6 +23,7 @@ pub mod replace;
 mod safe_parts;
 pub mod safety;
 pub mod sizes;
+mod sort_key;
 pub mod sorting;
 pub mod split;
 pub mod test;

@@ -13,14 +13,14 @@ use Rattle.tera_built_ins.specs.Replace.{replaced}
 use Rattle.tera_built_ins.proofs.Trimming.{byte, begins-own, lacks}
 
 -- there is a first piece
-data Parted : List (List ℕ) → Type 0 where
+pub data Parted : List (List ℕ) → Type 0 where
   parted : (t : List ℕ) (ts : List (List ℕ)) → Parted (t ∷ ts)
 
 onto-parted : (c : ℕ) (ts : List (List ℕ)) → Parted (onto_first c ts)
 onto-parted c [] = parted _ _
 onto-parted c (t ∷ ts) = parted _ _
 
-cut-parted : (p : ℕ) (ps : List ℕ) (k : ℕ) (t : List ℕ) → Parted (cut byte p ps k t)
+pub cut-parted : (p : ℕ) (ps : List ℕ) (k : ℕ) (t : List ℕ) → Parted (cut byte p ps k t)
 cut-parted p ps k [] = parted _ _
 cut-parted p ps (suc k) (c ∷ t) = cut-parted p ps k t
 cut-parted p ps zero (c ∷ t) = go (begins byte (p ∷ ps) (c ∷ t))
@@ -30,7 +30,7 @@ cut-parted p ps zero (c ∷ t) = go (begins byte (p ∷ ps) (c ∷ t))
     go false = onto-parted c _
 
 -- one piece more
-joined-more : (to t : List ℕ) {ts : List (List ℕ)} → Parted ts → joined byte to (t ∷ ts) ≡ t ++ (to ++ joined byte to ts)
+pub joined-more : (to t : List ℕ) {ts : List (List ℕ)} → Parted ts → joined byte to (t ∷ ts) ≡ t ++ (to ++ joined byte to ts)
 joined-more to t (parted u us) = ap (λ q. t ++ q) (append_assoc to u _)
 
 joined-onto : (to : List ℕ) (c : ℕ) {ts : List (List ℕ)} → Parted ts → joined byte to (onto_first c ts) ≡ c ∷ joined byte to ts

@@ -2,9 +2,10 @@
 use Rattle.std.proofs.Common.{◌≡◌, ◌≢◌, ℕ, zero, suc, ◌<◌, false, List, [], ◌∷◌, ◌++◌, take, drop, refl, ap, ◌∙◌, Some, None, arith, append-nil}
 use Rattle.std.specs.List.{onto_first}
 use Rattle.std.specs.Str.Pattern.{FindsText, LacksTextAt, SplitsAroundMatch}
-use Rattle.tera_built_ins.specs.Pieces.{begins, cut, pieces}
+use Rattle.tera_built_ins.specs.Pieces.{begins, cut, pieces, joined}
+use Rattle.tera_built_ins.specs.Replace.{replaced}
 use Rattle.tera_built_ins.proofs.Trimming.{byte, begins-own, lacks}
-use Rattle.tera_built_ins.proofs.Replacing.{past}
+use Rattle.tera_built_ins.proofs.Replacing.{past, cut-parted, joined-more}
 
 -- characters before the first piece
 abbrev before : List ℕ → List (List ℕ) → List (List ℕ)
@@ -49,3 +50,12 @@ split-found (p ∷ ps) s front back h (i, j, f, e, g, within, at, total) = rw (e
 pub split-none : (pat s : List ℕ) → pat ≢ [] → FindsText pat s None → pieces byte pat s ≡ s ∷ []
 split-none [] s h f = absurd (h refl)
 split-none (p ∷ ps) s h f = pieces-none p ps s f
+
+-- what is made of the same two where each place of the pattern has another text
+pub replaced-found : (pat to s front back : List ℕ) → pat ≢ [] → SplitsAroundMatch (FindsText pat) s front back → replaced byte pat to s ≡ front ++ (to ++ replaced byte pat to back)
+replaced-found [] to s front back h f = absurd (h refl)
+replaced-found (p ∷ ps) to s front back h f =
+    ap (joined byte to) (split-found (p ∷ ps) s front back h f) ∙ joined-more to front (cut-parted p ps 0 back)
+
+pub replaced-none : (pat to s : List ℕ) → pat ≢ [] → FindsText pat s None → replaced byte pat to s ≡ s
+replaced-none pat to s h f = ap (joined byte to) (split-none pat s h f) ∙ append-nil s

@@ -22,6 +22,7 @@ mod refusals;
 pub mod replace;
 mod safe_parts;
 pub mod safety;
+mod searching;
 pub mod sizes;
 mod sort_key;
 pub mod sorting;

@@ -1,5 +1,5 @@
 // One text in the place of another.
-ghost use Rattle.std.specs.Prelude.{Ok, string_bytes};
+ghost use Rattle.std.specs.Prelude.{◌≢◌, [], Ok, string_bytes};
 ghost use Rattle.tera_errors.specs.Prelude.{Gives};
 ghost use Rattle.tera_values.specs.Prelude.{plain};
 ghost use Rattle.tera_built_ins.specs.Escaping.{applied};
@@ -8,6 +8,8 @@ ghost use Rattle.tera_built_ins.specs.Replace.{replaced, replace_of};
 use crate::arguments::{as_text, needed_text};
 use crate::escaping::{EscapeFn, Filtering};
 use crate::safe_parts::{made, part};
+use crate::searching::{is_short, split_at_first};
+use memchr::memmem::Finder;
 use std::alloc::Global;
 use tera_values::{TeraResult, Value};
 
@@ -15,7 +17,28 @@ use tera_values::{TeraResult, Value};
 pub(crate) fn put(alloc: Global, text: &str, from: &str, to: &str) -> TeraResult<String>
     ensures { Gives string_bytes result (Ok (replaced plain.code from.now to.now text.now)) }
 {
-    Ok(text.replace(alloc, from, to)?)
+    if from.is_empty() || is_short(from, text) {
+        Ok(text.replace(alloc, from, to)?)
+    } else {
+        put_at_each(alloc, text, from, to)
+    }
+}
+
+// The same of a pattern that is not empty.
+fn put_at_each(alloc: Global, text: &str, from: &str, to: &str) -> TeraResult<String>
+    requires { from.now ≢ [] }
+    ensures { Gives string_bytes result (Ok (replaced plain.code from.now to.now text.now)) }
+{
+    let finder = Finder::new(from.as_bytes());
+    let mut answer = String::new(alloc);
+    let mut rest = text;
+    while let Some((before, behind)) = split_at_first(&finder, from, rest) {
+        answer.push_str(before)?;
+        answer.push_str(to)?;
+        rest = behind;
+    }
+    answer.push_str(rest)?;
+    Ok(answer)
 }
 
 /// The text with another one at all positions of a pattern, from the left. The empty pattern stands before each character and

@@ -6,6 +6,8 @@ ghost use Rattle.tera_built_ins.specs.Pieces.{pieces, letters};
 ghost use Rattle.tera_built_ins.specs.Split.{made_texts, split_of};
 
 use crate::arguments::{as_text, needed_text};
+use crate::searching::{is_short, split_at_first};
+use memchr::memmem::Finder;
 use std::alloc::Global;
 use tera_values::{Kwargs, TeraResult, Value};
 
@@ -18,6 +20,23 @@ fn between(alloc: Global, content: &str, pattern: &str) -> TeraResult<Vec<Value>
     let mut pieces = Vec::new(alloc);
     let mut rest = content;
     while let Some((piece, after)) = rest.split_once(pattern) {
+        pieces.push(Value::string(alloc, piece)?)?;
+        rest = after;
+    }
+    pieces.push(Value::string(alloc, rest)?)?;
+    Ok(pieces)
+}
+
+// The same of a content that is not short.
+fn between_places(alloc: Global, content: &str, pattern: &str) -> TeraResult<Vec<Value>>
+    requires { pattern.now ≢ [] }
+    ensures { Gives (λ v. v.items) result
+        (Ok (made_texts plain (pieces plain.code pattern.now content.now))) }
+{
+    let finder = Finder::new(pattern.as_bytes());
+    let mut pieces = Vec::new(alloc);
+    let mut rest = content;
+    while let Some((piece, after)) = split_at_first(&finder, pattern, rest) {
         pieces.push(Value::string(alloc, piece)?)?;
         rest = after;
     }
@@ -48,8 +67,10 @@ pub fn split(alloc: Global, value: &Value, arguments: &Kwargs) -> TeraResult<Val
     let pattern = needed_text(arguments, "pat")?;
     let pieces = if pattern.text.is_empty() {
         letters(alloc, given.text)?
-    } else {
+    } else if is_short(pattern.text, given.text) {
         between(alloc, given.text, pattern.text)?
+    } else {
+        between_places(alloc, given.text, pattern.text)?
     };
     Ok(Value::array(pieces))
 }

@@ -5,25 +5,25 @@ import shutil
 import subprocess
 
 TOP = os.path.dirname(os.path.dirname(os.path.abspath(__file__)))
-LIST = os.path.join(TOP, "crates.txt")
 
 
 @contextlib.contextmanager
-def built(folder, libraries):
-    """The path of the program in bench/folder/program.txt, which stands on these libraries."""
+def built(folder, libraries, top=TOP):
+    """The path of the program in bench/folder/program.txt, which stands on these libraries: of this repository, or of a copy."""
     name = f"bench_{folder}"
-    crate = os.path.join(TOP, "crates", name)
-    with open(LIST) as lines:
+    crate = os.path.join(top, "crates", name)
+    names = os.path.join(top, "crates.txt")
+    with open(names) as lines:
         kept = lines.read()
     try:
         shutil.rmtree(crate, ignore_errors=True)
         os.makedirs(os.path.join(crate, "src"))
-        shutil.copy(os.path.join(TOP, "bench", folder, "program.txt"), os.path.join(crate, "src", "main.rt"))
-        with open(LIST, "a") as lines:
+        shutil.copy(os.path.join(top, "bench", folder, "program.txt"), os.path.join(crate, "src", "main.rt"))
+        with open(names, "a") as lines:
             lines.write(f"{name}: {' '.join(libraries)}\n")
         subprocess.run(["rt", "run"], cwd=crate, stdin=subprocess.DEVNULL, stdout=subprocess.DEVNULL, check=True)
         yield os.path.join(crate, "out", name)
     finally:
         shutil.rmtree(crate, ignore_errors=True)
-        with open(LIST, "w") as lines:
+        with open(names, "w") as lines:
             lines.write(kept)

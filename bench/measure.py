@@ -20,21 +20,6 @@ def told(program, script):
     return subprocess.run([program], input=script.encode(), capture_output=True, check=True).stdout.decode()
 
 
-def ran(program, script):
-    """Runs the program on a script, and throws away what it prints: a pipe and its reader cost as much as a small page."""
-    subprocess.run([program], input=script.encode(), stdout=subprocess.DEVNULL, check=True)
-
-
-def timed(program, text, rounds):
-    """The microseconds of the fastest of so many rounds that the program of bench/loops times, and the text that it renders."""
-    rest = told(program, f"{rounds}\n{text}")
-    times = []
-    for _ in range(rounds):
-        line, _, rest = rest.partition("\n")
-        times.append(int(line))
-    return min(times), rest
-
-
 def spent(program, script):
     """The seconds that a processor runs the program, which other load moves less than those of a clock."""
     with tempfile.TemporaryFile() as source:
@@ -59,17 +44,3 @@ def counted(program, script):
 def instructions(program, script):
     """How many instructions callgrind counts."""
     return counted(program, script)[0]
-
-
-def a_round(program, text):
-    """The instructions of one round of the program of bench/loops."""
-    once, twice = (instructions(program, f"{rounds}\n{text}") for rounds in (1, 2))
-    return twice - once
-
-
-def rendered(text, context):
-    """The seconds of Jinja2's fastest rendering of nine, and its text."""
-    import jinja2
-
-    template = jinja2.Environment(autoescape=True).from_string(text)
-    return best(9, lambda: template.render(**context)), template.render(**context)

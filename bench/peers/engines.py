@@ -14,8 +14,8 @@ COMMANDS = {
     "tera1": [os.environ.get("TERA1", os.path.join(OUT, "tera1", "target", "release", "tera1_peer"))],
     "jinja2": [sys.executable, os.path.join(HERE, "jinja2_peer.py")],
 }
-# A round is as many renderings as take so many nanoseconds.
-ROUND = 2_000_000
+# A round is as many renderings as take so many nanoseconds; there are at most ten of them, and fewer where ten take longer than so many.
+ROUND, ROUNDS = 2_000_000, 100_000_000
 
 
 def given(row, engine, work, rounds=1, times=1):
@@ -44,11 +44,12 @@ def nanoseconds(row, engine, work, rounds, times):
 def least(row, work, passes):
     """The least nanoseconds of each engine, which take turns."""
     first = {engine: nanoseconds(row, engine, work, 2, 1) for engine in row.texts}
-    times = {engine: 1 if work == "read" else max(1, int(ROUND / taken)) for engine, taken in first.items()}
     found = dict(first)
     for _ in range(passes):
-        for engine in row.texts:
-            found[engine] = min(found[engine], nanoseconds(row, engine, work, 10, times[engine]))
+        for engine, taken in first.items():
+            times = 1 if work == "read" else max(1, int(ROUND / taken))
+            rounds = max(1, min(10, int(ROUNDS / taken)))
+            found[engine] = min(found[engine], nanoseconds(row, engine, work, rounds, times))
     return found
 
 
@@ -110,13 +111,7 @@ def dearest(row, work, most=5):
 
 
 def peak(row, engine):
-    """The most memory of a run that renders once, in millions of bytes."""
-    with tempfile.TemporaryFile() as source:
-        source.write(given(row, engine, "render"))
-        source.seek(0)
-        child = subprocess.Popen(COMMANDS[engine], stdin=source, stdout=subprocess.DEVNULL)
-        _, status, usage = os.wait4(child.pid, 0)
-    child.returncode = os.waitstatus_to_exitcode(status)
-    if child.returncode:
-        sys.exit(f"{row.name}: {engine} ends with {child.returncode}")
-    return usage.ru_maxrss * 1024 / 1e6
+    """The most memory of a run that renders once, in millions of bytes. GNU time starts it, for a child's peak is never below that of who starts it."""
+    command = ["time", "-f", "%M", *COMMANDS[engine]]
+    run = subprocess.run(command, input=given(row, engine, "render"), stdout=subprocess.DEVNULL, stderr=subprocess.PIPE, check=True)
+    return int(run.stderr.split()[-1]) * 1024 / 1e6

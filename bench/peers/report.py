@@ -51,9 +51,9 @@ def micro(nanoseconds):
     return None if nanoseconds is None else nanoseconds / 1000
 
 
-def table(heads, lines):
-    """A table of which the first column is of words."""
-    rows = [heads, ["---"] + ["---:"] * (len(heads) - 1), *lines]
+def table(heads, lines, of_words=1):
+    """A table of which the first columns are of words, and the others of figures."""
+    rows = [heads, ["---"] * of_words + ["---:"] * (len(heads) - of_words), *lines]
     return "".join("| " + " | ".join(row) + " |\n" for row in rows)
 
 
@@ -106,7 +106,7 @@ def open_rows(rows):
     """What is not reached, each with its dearest places, and where Jinja2 is quicker."""
     found = [short(it) for it in rows if it.is_short()]
     slower = [f"{title(it)} ({it.by_time('jinja2'):.2f})" for it in rows if (it.by_time("jinja2") or 1) < 1]
-    lines = table(["Row", "reached", "dearest places of ours, of its instructions"], found) if found else "All is reached.\n"
+    lines = table(["Row", "reached", "dearest places"], found, 3) if found else "All is reached.\n"
     return lines + (f"\nJinja2 takes less time than ours, by so many times ours: {', '.join(slower)}.\n" if slower else "\nJinja2 takes more time in every row.\n")
 
 

@@ -25,7 +25,8 @@ def grid(scale, height):
     for power in range(scale[0], scale[1] + 1):
         x = place_of(2**power, *scale)
         yield f'<line x1="{x:.1f}" y1="{TOP - 6}" x2="{x:.1f}" y2="{height - 20}" stroke="{"#888" if power == 0 else "#ddd"}"/>'
-        yield text(x, height - 6, 11, f"{2.0 ** power:g}", ' text-anchor="middle"')
+        if power % 2 == 0:
+            yield text(x, height - 6, 11, f"{2.0 ** power:g}", ' text-anchor="middle"')
 
 
 def plotted(title, kinds, topics):

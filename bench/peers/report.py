@@ -83,7 +83,7 @@ def reading(rows):
 
 def memory(rows):
     engines = ("ours", "tera1", "jinja2")
-    return table(["What is rendered", "MB", "Tera 1, MB", "Jinja2, MB"], [[named(row), *(f"{peaks[it]:.0f}" for it in engines)] for row, peaks in rows])
+    return table(["What is rendered", "MB", "Tera 1, MB", "Jinja2, MB"], [[named(row), *(cell(peaks.get(it), ".0f") for it in engines)] for row, peaks in rows])
 
 
 def title(measured):

@@ -187,7 +187,7 @@ READING = [
     Row("100 components", said(*map(defined, ("component", "macro", "macro"))), wanted=2),
 ]
 MEMORY = [
-    Row("1 MiB of `{{name}}`, rendered", said("{{name}}" * (1 << 17))),
+    Row("1 MiB of `{{name}}`", said("{{name}}" * (1 << 17), "", None)),
     Row("a loop over 1,000,000 integers", loop(""), "integers", 1_000_000),
     Row("a loop over 1,000,000 texts", loop(""), "words", 1_000_000),
     Row("a loop over 100,000 maps of three", loop(""), "people", 100_000),

@@ -11,7 +11,7 @@ ghost use Rattle.tera_built_ins.specs.Indent as spec;
 use crate::arguments::{Given, as_text, flag, optional_text, size_or};
 use crate::escaping::{EscapeFn, Filtering};
 use crate::refusals::no_character;
-use crate::safe_parts::{given_safe, made, part};
+use crate::safe_parts::{given_safe, part};
 use std::alloc::Global;
 use tera_values::{Error, TeraResult, Value};
 
@@ -134,5 +134,5 @@ pub fn indent<E: EscapeFn>(filtering: Filtering<'_, E>) -> TeraResult<Value>
         first,
         blank,
     )?;
-    made(filtering.alloc, answer.as_str(), is_safe)
+    Value::from_string(filtering.alloc, answer, is_safe)
 }

@@ -10,7 +10,7 @@ ghost use Rattle.tera_built_ins.specs.Join.{is_safe_text, item_part, separator_p
 
 use crate::arguments::{Given, as_array, optional_text};
 use crate::escaping::{EscapeFn, Escaping, Filtering};
-use crate::safe_parts::{given_safe, made, part};
+use crate::safe_parts::{given_safe, part};
 use std::borrow::CowStr;
 use tera_values::{Shape, TeraResult, Value};
 
@@ -24,7 +24,7 @@ pub fn join<E: EscapeFn>(filtering: Filtering<'_, E>) -> TeraResult<Value>
     let is_safe = filtering.escaping.autoescape && (has_safe_text(items) || given_safe(separator));
     let between = separator_part(filtering, is_safe, separator)?;
     let row = row(filtering, is_safe, items, between.as_str())?;
-    made(filtering.alloc, row.as_str(), is_safe)
+    Value::from_string(filtering.alloc, row, is_safe)
 }
 
 fn has_safe_text(items: &[Value]) -> bool

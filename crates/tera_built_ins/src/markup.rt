@@ -23,7 +23,7 @@ pub fn escape(alloc: Global, value: &Value, markup: Markup) -> TeraResult<Value>
     let given = as_text(alloc, value)?;
     let mut escaped = String::new(alloc);
     put_escape(given.text, markup, &mut escaped)?;
-    Value::string(alloc, escaped.as_str())
+    Value::from_string(alloc, escaped, false)
 }
 
 fn put_escape(text: &str, markup: Markup, out: &mut String) -> TeraResult<()>
@@ -45,5 +45,5 @@ pub fn newlines_to_br(alloc: Global, value: &Value) -> TeraResult<Value>
     let without_pairs = put(alloc, given.text, "\r\n", "<br>")?;
     let without_feeds = put(alloc, without_pairs.as_str(), "\n", "<br>")?;
     let broken = put(alloc, without_feeds.as_str(), "\r", "<br>")?;
-    Value::string(alloc, broken.as_str())
+    Value::from_string(alloc, broken, false)
 }

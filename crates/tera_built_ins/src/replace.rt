@@ -7,7 +7,7 @@ ghost use Rattle.tera_built_ins.specs.Replace.{replaced, replace_of};
 
 use crate::arguments::{as_text, needed_text};
 use crate::escaping::{EscapeFn, Filtering};
-use crate::safe_parts::{made, part};
+use crate::safe_parts::part;
 use crate::searching::{is_short, split_at_first};
 use memchr::memmem::Finder;
 use std::alloc::Global;
@@ -53,5 +53,5 @@ pub fn replace<E: EscapeFn>(filtering: Filtering<'_, E>) -> TeraResult<Value>
     let text = part(filtering, is_safe, given)?;
     let to = part(filtering, is_safe, to)?;
     let answer = put(filtering.alloc, text.as_str(), from.text, to.as_str())?;
-    made(filtering.alloc, answer.as_str(), is_safe)
+    Value::from_string(filtering.alloc, answer, is_safe)
 }

@@ -39,5 +39,5 @@ pub fn escape<E: EscapeFn>(filtering: Filtering<'_, E>) -> TeraResult<Value>
 pub fn str(alloc: Global, value: &Value) -> TeraResult<Value>
     ensures { Gives (λ v. v) result (str_of plain value.now) }
 {
-    Value::string(alloc, value.printed(alloc)?.as_str())
+    Value::from_string(alloc, value.printed(alloc)?, false)
 }

@@ -18,7 +18,7 @@ fn shorten(alloc: Global, content: &str, length: usize, end: &str) -> TeraResult
             let mut shortened = String::new(alloc);
             shortened.push_str(&content[..position])?;
             shortened.push_str(end)?;
-            Value::string(alloc, shortened.as_str())
+            Value::from_string(alloc, shortened, false)
         }
         None => Value::string(alloc, content),
     }

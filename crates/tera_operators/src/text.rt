@@ -1,5 +1,5 @@
 // Texts that are joined.
-ghost use Rattle.std.specs.Prelude.{◌++◌, false};
+ghost use Rattle.std.specs.Prelude.{◌++◌, Ok, false};
 ghost use Rattle.tera_errors.specs.Prelude.{Gives};
 ghost use Rattle.tera_values.specs.Prelude.{text, printed};
 ghost use Rattle.tera_operators.specs.Operand.{at_span, spanning};
@@ -7,7 +7,7 @@ ghost use Rattle.tera_operators.specs.Operand.{at_span, spanning};
 use crate::faults::spanning;
 use crate::operand::Operand;
 use std::alloc::Global;
-use tera_values::{TeraResult, Value};
+use tera_values::{Shape, TeraResult, Value};
 
 /// `left ~ right`: the printed texts joined, without the safe mark.
 pub(crate) fn concatenate(alloc: Global, left: &Operand, right: &Operand) -> TeraResult<Operand>
@@ -15,9 +15,25 @@ pub(crate) fn concatenate(alloc: Global, left: &Operand, right: &Operand) -> Ter
         (text (printed left.now.value ++ printed right.now.value) false)
         (spanning left.now right.now)) }
 {
-    let mut joined = String::new(alloc);
-    left.value().print_to(&mut joined)?;
-    right.value().print_to(&mut joined)?;
-    let value = Value::string(alloc, joined.as_str())?;
+    let value = joined(alloc, left.value(), right.value())?;
     Ok(Operand::new(value, spanning(left, right)))
+}
+
+// Two texts are copied once, into a buffer of the right size.
+fn joined(alloc: Global, left: &Value, right: &Value) -> TeraResult<Value>
+    ensures { Gives (λ v. v) result (Ok (text (printed left.now ++ printed right.now) false)) }
+{
+    match (left.shape(), right.shape()) {
+        (Shape::Text(left, _), Shape::Text(right, _)) => Value::joined(alloc, left, right, false),
+        _ => print_both(alloc, left, right),
+    }
+}
+
+fn print_both(alloc: Global, left: &Value, right: &Value) -> TeraResult<Value>
+    ensures { Gives (λ v. v) result (Ok (text (printed left.now ++ printed right.now) false)) }
+{
+    let mut both = String::new(alloc);
+    left.print_to(&mut both)?;
+    right.print_to(&mut both)?;
+    Value::from_string(alloc, both, false)
 }

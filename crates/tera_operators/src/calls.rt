@@ -16,7 +16,7 @@ pub fn arguments(alloc: Global, names: &[Name], operands: Vec<Operand>) -> TeraR
     requires { length names.now ≡ length operands.items }
     ensures { Gives (λ k. k) result (Ok (by_name (zip names.now operands.items))) }
 {
-    let mut all = Kwargs::new(alloc);
+    let mut all = Kwargs::with_capacity(alloc, names.len())?;
     for (name, operand) in names.iter().zip(operands) {
         all.put(name.share()?, operand.into_value())?;
     }

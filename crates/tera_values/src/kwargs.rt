@@ -99,6 +99,9 @@ impl Kwargs {
     pub fn value(&self, name: &str) -> Option<&Value>
         ensures { option_copied result ≡ at_name name.now self.now }
     {
+        if self.entries.len() <= FEW {
+            return value_among(self.entries.as_slice(), name);
+        }
         match position(self.entries.as_slice(), name) {
             Ok(at) => Some(&self.entries[at].1),
             Err(_) => None,
@@ -210,6 +213,18 @@ fn among<'a>(entries: &'a [(Name, Value)], name: &Sought<'_>) -> Option<&'a Valu
 {
     for entry in entries {
         if name.is(&entry.0) {
+            return Some(&entry.1);
+        }
+    }
+    None
+}
+
+// The same by a name whose hash is not known.
+fn value_among<'a>(entries: &'a [(Name, Value)], name: &str) -> Option<&'a Value>
+    ensures { option_copied result ≡ at_name name.now entries.now }
+{
+    for entry in entries {
+        if name == entry.0.as_str() {
             return Some(&entry.1);
         }
     }

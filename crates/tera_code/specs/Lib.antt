@@ -8,6 +8,9 @@ pub mod Asked
 pub mod Printing
 pub mod Settled
 pub mod Called
+pub mod BuiltIn
+pub mod Integers
+pub mod Choices
 pub mod Budget
 pub mod Targets
 pub mod Calls

@@ -1,7 +1,8 @@
 // The instructions of one body.
 ghost use Rattle.std.specs.Prelude.{◌≡◌, ◌+◌, ◌<◌, ◌^◌, cond, false, length, map, slice_get, IfSome, IsTrue, MatchOption, Some, None, option_map, option_and_then, unwrap_or};
 ghost use Rattle.std.specs.List.{All};
-ghost use Rattle.tera_code.specs.Asked.{loaded_attribute, is_write_top, jump_length_if_false, Compares, comparison_at, reads_on_at};
+ghost use Rattle.tera_code.specs.Integers.{with_integer, loads_integer_at, integer_comparison_at};
+ghost use Rattle.tera_code.specs.Asked.{loaded_attribute, applied_operator, is_write_top, jump_length_if_false, Compares, comparison_at, reads_on_at};
 ghost use Rattle.tera_code.specs.Called.{callee_of, called_by};
 ghost use Rattle.tera_code.specs.declared.instruction.Instruction.TheVariants as instruction;
 ghost use Rattle.tera_code.specs.Packed.{Within, shelf_of, unpacked};
@@ -9,7 +10,7 @@ ghost use Rattle.tera_code.specs.Printing.{printing_loop_at};
 ghost use Rattle.tera_code.specs.Targets.{target_in, target_of};
 
 use crate::callee::Callee;
-use crate::comparison::Comparison;
+use crate::comparison::{Comparison, IntegerComparison};
 use crate::lent_code::LentCode;
 use crate::lent_instruction::LentInstruction;
 use crate::lent_parts::Text;
@@ -19,6 +20,7 @@ use crate::steps::Steps;
 use crate::tally::Tally;
 use crate::target::Target;
 use std::marker::Model;
+use tera_syntax_tree::BinaryOperator;
 use tera_values::{Name, Span};
 
 /// The instructions of a body, and the name of the template in whose text it stands. What is to be known of those behind an instruction
@@ -157,6 +159,52 @@ impl Chunk {
         steps.tick();
         steps.tick();
         Some(comparison)
+    }
+
+    /// The same with an integer of at most 64 bits with its sign.
+    #[inline(always)]
+    pub fn integer_comparison_at<T: Tally>(
+        &self,
+        at: usize,
+        steps: &mut Steps<T>,
+    ) -> Option<IntegerComparison>
+        ensures means { IfSome result (λ c. Compares self.now.code at (with_integer c)) }
+        ensures exact { result ≡ integer_comparison_at self.now.code at }
+        ensures count { MatchOption result (steps.new ≡ steps.old)
+            (λ _. steps.new ≡ steps.old + 2) }
+    {
+        let comparison = self.instructions().integer_comparison(at)?;
+        steps.tick();
+        steps.tick();
+        Some(comparison)
+    }
+
+    /// Whether the instruction at this position loads such an integer. The instruction is not handed out, so that it isn't counted.
+    #[inline(always)]
+    pub fn loads_integer_at(&self, at: usize) -> bool
+        ensures { result ≡ loads_integer_at self.now.code at }
+    {
+        match self.lent(at) {
+            Some(instruction) => instruction.as_integer().is_some(),
+            None => false,
+        }
+    }
+
+    /// The operator that the instruction at this position applies to two operands, which is counted where it applies one.
+    #[inline(always)]
+    pub fn operator_at<T: Tally>(
+        &self,
+        at: usize,
+        steps: &mut Steps<T>,
+    ) -> Option<(BinaryOperator, Span)>
+        ensures means { IfSome result (λ p. slice_get self.now.code at
+            ≡ Some (instruction.Binary p.0 p.1)) }
+        ensures exact { option_map (λ p. (p.0, p.1)) result
+            ≡ option_and_then applied_operator (slice_get self.now.code at) }
+        ensures count { MatchOption result (steps.new ≡ steps.old)
+            (λ _. steps.new ≡ steps.old + 1) }
+    {
+        counted(self.lent(at)?.as_binary(), steps)
     }
 
     /// Whether the instruction at this position loads a name that is used up behind it: an attribute is taken of it, it is put out or

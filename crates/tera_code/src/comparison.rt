@@ -12,3 +12,13 @@ pub struct Comparison<'a> {
     pub operator: BinaryOperator,
     pub span: Span,
 }
+
+/// The same with an integer of at most 64 bits with its sign.
+#[derive(Clone, Copy)]
+pub struct IntegerComparison {
+    pub integer: i64,
+    /// Where the integer stands.
+    pub integer_span: Span,
+    pub operator: BinaryOperator,
+    pub span: Span,
+}

@@ -1,8 +1,9 @@
 // Instructions as they lie, which are looked at where their body is compiled.
 ghost use Rattle.std.specs.Prelude.{◌≡◌, ◌<◌, ◌^◌, length, map, slice_get, IfSome, MatchOption, Some, None};
 ghost use Rattle.tera_code.specs.Asked.{Compares, comparison_at, uses_top_at};
+ghost use Rattle.tera_code.specs.Integers.{with_integer, integer_comparison_at};
 
-use crate::comparison::Comparison;
+use crate::comparison::{Comparison, IntegerComparison};
 use crate::lent_instruction::LentInstruction;
 use crate::packed::{Packed, Tables};
 use std::marker::Model;
@@ -71,6 +72,25 @@ impl<'a> LentCode<'a> {
         Some(Comparison {
             constant,
             constant_span,
+            operator,
+            span,
+        })
+    }
+
+    /// The comparison with an integer that the two instructions at this position make.
+    #[inline(always)]
+    pub(crate) fn integer_comparison(&self, at: usize) -> Option<IntegerComparison>
+        ensures means { IfSome result (λ c. Compares self.now at (with_integer c)) }
+        ensures exact { result ≡ integer_comparison_at self.now at }
+    {
+        let (integer, integer_span) = self.lent(at)?.as_integer()?;
+        let (operator, span) = self.lent(at + 1)?.as_binary()?;
+        if !is_comparison(operator) {
+            return None;
+        }
+        Some(IntegerComparison {
+            integer,
+            integer_span,
             operator,
             span,
         })

@@ -1,5 +1,5 @@
 // Instructions as a chunk hands them out.
-ghost use Rattle.std.specs.Prelude.{◌≡◌, IfSome, IsTrue, option_map};
+ghost use Rattle.std.specs.Prelude.{◌≡◌, IfSome, IsTrue, Some, option_map};
 ghost use Rattle.tera_values.specs.Val as val;
 ghost use Rattle.tera_code.specs.declared.instruction.Instruction.TheVariants as instruction;
 ghost use Rattle.tera_code.specs.Asked.{written_text, written_name, loaded_name, loaded_integer};
@@ -7,17 +7,21 @@ ghost use Rattle.tera_code.specs.Asked.{loaded_constant, loaded_attribute, appli
 ghost use Rattle.tera_code.specs.Asked.{started_loop, ended_loop, jump_length, jump_length_if_false};
 ghost use Rattle.tera_code.specs.Asked.{included_template, taken_block, taken_above, taken_component};
 ghost use Rattle.tera_code.specs.Asked.{is_write_top, is_next_turn, uses_top};
+ghost use Rattle.tera_built_ins.specs.Prelude.{filter_named, test_named};
+ghost use Rattle.tera_code.specs.BuiltIn.{built_in_filter, built_in_test};
 ghost use Rattle.tera_code.specs.Called.{callee_of, called_by};
+ghost use Rattle.tera_code.specs.Choices.{falsy_jump_length, truthy_jump_length, is_not};
 ghost use Rattle.tera_code.specs.Printing.{puts};
 ghost use Rattle.tera_code.specs.Targets.{target_in, target_of};
 
 use crate::callee::Callee;
 use crate::constant::Constant;
 use crate::instruction::Instruction;
-use crate::lent_parts::{Keys, LentName, Text};
+use crate::lent_parts::{Keys, LentName, Names, Text};
 use crate::packed::{Packed, Tables};
 use crate::target::Target;
 use std::marker::Model;
+use tera_built_ins::{BuiltInFilter, BuiltInTest};
 use tera_syntax_tree::BinaryOperator;
 use tera_values::{Name, Span};
 
@@ -275,6 +279,42 @@ impl<'a> LentInstruction<'a> {
         }
     }
 
+    /// The filter that it applies, where one that is built in has the name, with the name and those of the arguments.
+    #[inline(always)]
+    pub fn as_built_in_filter(&self) -> Option<(BuiltInFilter, LentName<'a>, Names<'a>, Span)>
+        ensures means { IfSome result (λ p. (self.now ≡ instruction.ApplyFilter p.1 p.2 p.3)
+            × (filter_named p.1 ≡ Some p.0)) }
+        ensures exact { option_map (λ p. (p.0, p.1, p.2, p.3)) result ≡ built_in_filter self.now }
+    {
+        match *self.packed {
+            Packed::ApplyFilter { call, span } => {
+                let filter = self.tables.built_in_filter(call)?;
+                let name = self.tables.called_name(call);
+                let arguments = self.tables.argument_names(call);
+                Some((filter, name, arguments, self.tables.span(span)))
+            }
+            _ => None,
+        }
+    }
+
+    /// The same of a test.
+    #[inline(always)]
+    pub fn as_built_in_test(&self) -> Option<(BuiltInTest, LentName<'a>, Names<'a>, Span)>
+        ensures means { IfSome result (λ p. (self.now ≡ instruction.ApplyTest p.1 p.2 p.3)
+            × (test_named p.1 ≡ Some p.0)) }
+        ensures exact { option_map (λ p. (p.0, p.1, p.2, p.3)) result ≡ built_in_test self.now }
+    {
+        match *self.packed {
+            Packed::ApplyTest { call, span } => {
+                let test = self.tables.built_in_test(call)?;
+                let name = self.tables.called_name(call);
+                let arguments = self.tables.argument_names(call);
+                Some((test, name, arguments, self.tables.span(span)))
+            }
+            _ => None,
+        }
+    }
+
     /// How many instructions it passes, in any case.
     #[inline(always)]
     pub fn as_jump(&self) -> Option<usize>
@@ -297,6 +337,39 @@ impl<'a> LentInstruction<'a> {
             Packed::PopJumpIfFalse(skip) => Some(skip),
             _ => None,
         }
+    }
+
+    /// How many instructions it passes where the topmost operand is falsy, which it takes else.
+    #[inline(always)]
+    pub fn as_jump_if_false_or_pop(&self) -> Option<usize>
+        ensures means { IfSome result (λ skip. self.now ≡ instruction.JumpIfFalseOrPop skip) }
+        ensures exact { result ≡ falsy_jump_length self.now }
+    {
+        match *self.packed {
+            Packed::JumpIfFalseOrPop(skip) => Some(skip),
+            _ => None,
+        }
+    }
+
+    /// How many instructions it passes where the topmost operand is truthy, which it takes else.
+    #[inline(always)]
+    pub fn as_jump_if_true_or_pop(&self) -> Option<usize>
+        ensures means { IfSome result (λ skip. self.now ≡ instruction.JumpIfTrueOrPop skip) }
+        ensures exact { result ≡ truthy_jump_length self.now }
+    {
+        match *self.packed {
+            Packed::JumpIfTrueOrPop(skip) => Some(skip),
+            _ => None,
+        }
+    }
+
+    /// Whether it puts the truth value in the place of the topmost operand that this has not.
+    #[inline(always)]
+    pub fn is_not(&self) -> bool
+        ensures means { IsTrue result → self.now ≡ instruction.Not }
+        ensures exact { result ≡ is_not self.now }
+    {
+        matches!(self.packed, Packed::Not)
     }
 
     /// Whether it puts out the topmost operand.

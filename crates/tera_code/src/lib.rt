@@ -3,6 +3,7 @@
 
 pub mod blocks;
 pub mod call_kind;
+mod call_names;
 pub mod callee;
 mod calls;
 mod captures;
@@ -35,7 +36,7 @@ pub use blocks::BlockCode;
 pub use call_kind::CallKind;
 pub use callee::Callee;
 pub use chunk::Chunk;
-pub use comparison::Comparison;
+pub use comparison::{Comparison, IntegerComparison};
 pub use compiler::Compiler;
 pub use constant::Constant;
 pub use instruction::Instruction;

@@ -8,6 +8,7 @@ ghost use Rattle.tera_syntax_tree.specs.Prelude.{items_of, keys_of};
 ghost use Rattle.tera_code.specs.declared.instruction.Instruction.TheVariants as instruction;
 
 use crate::call_kind::CallKind;
+use crate::call_names::CallNames;
 use crate::constant::{Constant, Kept, small_integer};
 use crate::instruction::Instruction;
 use crate::lent_parts::{Keys, LentName, Names, Spreads};
@@ -182,13 +183,6 @@ impl Packed {
 pub(crate) struct LoopNames {
     pub(crate) key: Option<Name>,
     pub(crate) name: Name,
-}
-
-/// What a call names: what is called, and its arguments.
-#[derive(Drop)]
-pub(crate) struct CallNames {
-    pub(crate) name: Name,
-    pub(crate) arguments: Vec<Name>,
 }
 
 /// What instructions name by number.
@@ -453,10 +447,8 @@ impl Tables {
         ensures ok { IfOk result (λ p. Packs (shelf_of self.new) p
             (call_of kind name.now arguments.now span)) }
     {
-        let names = CallNames {
-            name: lacking(name.share())?,
-            arguments: shares(alloc, arguments.as_slice())?,
-        };
+        let name = lacking(name.share())?;
+        let names = CallNames::new(name, shares(alloc, arguments.as_slice())?);
         let call = number(&mut self.calls, names)?;
         let span = number(&mut self.spans, span)?;
         Ok(match kind {

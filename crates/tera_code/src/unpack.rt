@@ -1,6 +1,7 @@
 // What packed instructions mean.
 ghost use Rattle.std.specs.Prelude.{◌≡◌, ◌<◌, ◌≤◌, ◌-◌, [], get_or, length, take, drop, string_bytes};
 ghost use Rattle.std.specs.Str.{IsCharBoundary};
+ghost use Rattle.tera_built_ins.specs.Prelude.{filter_named, test_named};
 ghost use Rattle.tera_code.specs.Calls.{call_of};
 ghost use Rattle.tera_code.specs.Packed.{Within, shelf_of, span_at, name_at, call_at, loop_at, target_at, constant_of, unpacked};
 
@@ -9,6 +10,7 @@ use crate::constant::Constant;
 use crate::instruction::Instruction;
 use crate::lent_parts::{Keys, LentName, Names, Spreads, Text};
 use crate::packed::{Packed, Tables};
+use tera_built_ins::{BuiltInFilter, BuiltInTest};
 use tera_values::{Name, Sought, Span};
 
 impl Tables {
@@ -52,7 +54,26 @@ impl Tables {
         self.calls[number as usize].name.as_str()
     }
 
-    fn called_name(&self, number: u32) -> LentName<'_>
+    // The filter that is built in under the name of what is called.
+    #[inline(always)]
+    pub(crate) fn built_in_filter(&self, number: u32) -> Option<BuiltInFilter>
+        requires { number < length self.now.calls.items }
+        ensures { result ≡ filter_named (call_at (shelf_of self.now) number).0 }
+    {
+        self.calls[number as usize].filter()
+    }
+
+    // The test that is built in under the name of what is called.
+    #[inline(always)]
+    pub(crate) fn built_in_test(&self, number: u32) -> Option<BuiltInTest>
+        requires { number < length self.now.calls.items }
+        ensures { result ≡ test_named (call_at (shelf_of self.now) number).0 }
+    {
+        self.calls[number as usize].test()
+    }
+
+    #[inline(always)]
+    pub(crate) fn called_name(&self, number: u32) -> LentName<'_>
         requires { number < length self.now.calls.items }
         ensures { result ≡ (call_at (shelf_of self.now) number).0 }
     {
@@ -97,7 +118,8 @@ impl Tables {
         }
     }
 
-    fn argument_names(&self, number: u32) -> Names<'_>
+    #[inline(always)]
+    pub(crate) fn argument_names(&self, number: u32) -> Names<'_>
         requires { number < length self.now.calls.items }
         ensures { result ≡ (call_at (shelf_of self.now) number).1 }
     {

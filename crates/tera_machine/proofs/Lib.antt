@@ -11,6 +11,8 @@ pub mod Took
 pub mod Rejoining
 pub mod Including
 pub mod Calling
+pub mod BuiltIn
+pub mod Loaded
 pub mod Ways
 pub mod Numbers
 pub mod Heights

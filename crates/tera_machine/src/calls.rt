@@ -120,7 +120,7 @@ fn test<O: Objects>(
 }
 
 // The fault of a test, in the place of the value that it would have made.
-fn no_truth(error: Error) -> TeraResult<Value>
+pub(crate) fn no_truth(error: Error) -> TeraResult<Value>
     ensures { (meant : Result Bool Fault) → Gives (λ b. b) (Err error) meant →
         Gives (λ v. v) result (then meant (λ b. Ok (bool b))) }
 {

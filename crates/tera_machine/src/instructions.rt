@@ -13,7 +13,7 @@ use crate::configuration::Configuration;
 use crate::machine::{Flow, Going, VirtualMachine};
 use crate::step::push_again;
 use std::alloc::{AllocError, Global};
-use tera_code::{CallKind, Instruction, Keys};
+use tera_code::{CallKind, Constant, Instruction, Keys};
 use tera_errors::lacking;
 use tera_objects::Objects;
 use tera_operators::Operand;
@@ -46,7 +46,7 @@ impl<'c> Configuration<'c> {
             Instruction::WriteText(text) => going_on(self.write_text(text.as_str())),
             Instruction::WriteTop => self.write_top(machine, file),
             Instruction::WriteName(name, span) => self.write_name(machine, file, name, *span),
-            Instruction::LoadConst(constant, span) => self.push(constant.load()?, *span),
+            Instruction::LoadConst(constant, span) => self.load_constant(constant, *span),
             Instruction::LoadName(name, span) => going_on(self.load_name(alloc, name, *span)),
             Instruction::LoadAttribute {
                 name,
@@ -307,8 +307,16 @@ impl<'c> Configuration<'c> {
         self.put(operand)
     }
 
+    #[inline(never)]
+    pub(crate) fn load_constant<'f>(&mut self, constant: &Constant<'_>, span: Span) -> Going<'f>
+        ensures { Does (pushed constant.now span) self.old result self.new }
+    {
+        self.push(constant.load()?, span)
+    }
+
     // The truth value that the topmost operand has not.
-    fn deny<'f>(&mut self) -> Going<'f>
+    #[inline(never)]
+    pub(crate) fn deny<'f>(&mut self) -> Going<'f>
         requires { IsReady denied self.old }
         ensures { Does denied self.old result self.new }
     {
@@ -433,16 +441,16 @@ impl<'c> Configuration<'c> {
     }
 
     // An operand of this truth stays where it jumps; any other is dropped, and it goes on.
-    fn jump_or_pop<'f>(&mut self, truth: bool, skip: usize) -> Going<'f>
+    #[inline(never)]
+    pub(crate) fn jump_or_pop<'f>(&mut self, truth: bool, skip: usize) -> Going<'f>
         requires { IsReady (kept_if truth skip) self.old }
         ensures { Does (kept_if truth skip) self.old result self.new }
     {
-        let operand = self.operands.take();
-        if operand.value().is_truthy() != truth {
-            return Ok(Flow::On);
+        if self.operands.top().value().is_truthy() == truth {
+            return Ok(Flow::Skip(skip));
         }
-        self.operands.push(operand)?;
-        Ok(Flow::Skip(skip))
+        drop(self.operands.take());
+        Ok(Flow::On)
     }
 }
 

@@ -4,6 +4,7 @@
 pub mod asked;
 pub mod blocks;
 pub mod bodies;
+mod built_in;
 mod calls;
 mod captures;
 pub mod components;
@@ -11,6 +12,7 @@ pub mod configuration;
 pub mod ended;
 pub mod includes;
 pub mod instructions;
+mod integers;
 mod loops;
 pub mod machine;
 pub mod open_things;

@@ -227,7 +227,7 @@ impl<'c> Configuration<'c> {
     /// Tests an operand where the instruction behind a position does so, and else puts it on top of the others. The position becomes that
     /// of the last instruction that is done.
     #[inline(always)]
-    fn test_or_put<'f, T: Tally>(
+    pub(crate) fn test_or_put<'f, T: Tally>(
         &mut self,
         chunk: &Chunk,
         at: &mut usize,

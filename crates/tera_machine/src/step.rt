@@ -64,7 +64,7 @@ impl<'c> Configuration<'c> {
             return Ok(Flow::Skip(skip));
         }
         if let Some((number, span)) = instruction.as_integer() {
-            return going_on(self.load_integer(number, span));
+            return self.load_integer_and_apply(machine, chunk, at, number, span, steps);
         }
         self.perform_on(machine, chunk, at, instruction, steps)
     }
@@ -93,7 +93,7 @@ impl<'c> Configuration<'c> {
     {
         match instruction.as_loaded_name() {
             Some((name, span)) if chunk.reads_on_at(*at) => {
-                self.read(machine, chunk, at, name, span, steps)
+                self.read_on(machine, chunk, at, name, span, steps)
             }
             Some((name, span)) => going_on(self.load_named(machine.alloc, name, span)),
             None => self.step(machine, chunk, at, instruction, steps),
@@ -133,6 +133,72 @@ impl<'c> Configuration<'c> {
         if let Some((name, is_global)) = instruction.as_store() {
             return going_on(self.store(machine.alloc, name, is_global));
         }
+        self.evaluate(machine, chunk, at, instruction, steps)
+    }
+
+    /// The same for what else an expression is made of: choices, constants, and filters and tests that are built in.
+    #[inline(always)]
+    fn evaluate<'f, O: Objects, T: Tally>(
+        &mut self,
+        machine: &VirtualMachine<'_, O>,
+        chunk: &Chunk,
+        at: &mut usize,
+        instruction: &LentInstruction<'f>,
+        steps: &mut Steps<T>,
+    ) -> Going<'f>
+        requires there { slice_get chunk.now.code at.old ≡ Some instruction.now }
+        requires few { length chunk.now.code < 2 ^ 64 }
+        requires ready { IsReady (effect (here_of O.engine machine.now chunk.now.file self.old)
+            (at.old + 1) instruction.now) self.old }
+        requires small { IsSmall (effect (here_of O.engine machine.now chunk.now.file self.old)
+            (at.old + 1) instruction.now (config_of self.old)) }
+        ensures stands { Stands (start_at (here_of O.engine machine.now chunk.now.file self.old)
+            at.old steps.old (config_of self.old)) chunk.now.code at.new steps.new }
+        ensures does { Does (done (here_of O.engine machine.now chunk.now.file self.old)
+            chunk.now.code (suc (steps.new - steps.old)) at.old) self.old result self.new }
+    {
+        if let Some((constant, span)) = instruction.as_constant() {
+            return self.load_constant(&constant, span);
+        }
+        if let Some(skip) = instruction.as_jump_if_false_or_pop() {
+            return self.jump_or_pop(false, skip);
+        }
+        if let Some(skip) = instruction.as_jump_if_true_or_pop() {
+            return self.jump_or_pop(true, skip);
+        }
+        if instruction.is_not() {
+            return self.deny();
+        }
+        if let Some((filter, name, names, span)) = instruction.as_built_in_filter() {
+            return self.apply_filter(machine, chunk.file(), filter, &name, &names, span);
+        }
+        if let Some((test, name, names, span)) = instruction.as_built_in_test() {
+            return self.apply_test(machine, chunk.file(), test, &name, &names, span);
+        }
+        self.take(machine, chunk, at, instruction, steps)
+    }
+
+    /// The same for what takes another body, and for what is left.
+    #[inline(always)]
+    fn take<'f, O: Objects, T: Tally>(
+        &mut self,
+        machine: &VirtualMachine<'_, O>,
+        chunk: &Chunk,
+        at: &mut usize,
+        instruction: &LentInstruction<'f>,
+        steps: &mut Steps<T>,
+    ) -> Going<'f>
+        requires there { slice_get chunk.now.code at.old ≡ Some instruction.now }
+        requires few { length chunk.now.code < 2 ^ 64 }
+        requires ready { IsReady (effect (here_of O.engine machine.now chunk.now.file self.old)
+            (at.old + 1) instruction.now) self.old }
+        requires small { IsSmall (effect (here_of O.engine machine.now chunk.now.file self.old)
+            (at.old + 1) instruction.now (config_of self.old)) }
+        ensures stands { Stands (start_at (here_of O.engine machine.now chunk.now.file self.old)
+            at.old steps.old (config_of self.old)) chunk.now.code at.new steps.new }
+        ensures does { Does (done (here_of O.engine machine.now chunk.now.file self.old)
+            chunk.now.code (suc (steps.new - steps.old)) at.old) self.old result self.new }
+    {
         if let Some((name, span)) = instruction.as_block() {
             return Ok(Flow::Ask(Request::Block(name, span)));
         }
@@ -174,7 +240,7 @@ impl<'c> Configuration<'c> {
     }
 
     #[inline(never)]
-    fn load_integer(&mut self, number: i64, span: Span) -> Result<(), AllocError>
+    pub(crate) fn load_integer(&mut self, number: i64, span: Span) -> Result<(), AllocError>
         ensures { Does (pushed (int number) span) self.old (going_on result) self.new }
     {
         let value = Value::from_int(i128::from(number));

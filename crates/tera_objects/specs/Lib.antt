@@ -1,6 +1,7 @@
 pub mod Engine
 pub mod Calling
 pub mod Called
+pub mod BuiltIn
 pub mod Table
 pub mod Taken
 pub mod Kept

@@ -1,15 +1,18 @@
 // The caller's boxes, and what they are lent.
 ghost use Rattle.std.specs.Prelude.{◌≡◌, ◌++◌, Some, string_bytes, OnOk, OnErr};
+ghost use Rattle.tera_errors.specs.Prelude.{Gives};
+ghost use Rattle.tera_values.specs.Prelude.{plain};
 ghost use Rattle.tera_built_ins.specs.Prelude.{escape_or_html};
+ghost use Rattle.tera_built_ins.specs.Filters.{filter_of};
 ghost use Rattle.tera_state.specs.Prelude.{rendered, view_of, view_at, filters_left, around_of, variables_of};
 
 use crate::call::Call;
 use crate::over::CallerObjects;
 use std::alloc::{AllocError, Global};
-use tera_built_ins::{EscapeFn, Escaping};
+use tera_built_ins::{BuiltInFilter, EscapeFn, Escaping};
 use tera_errors::lacking;
 use tera_state::{StateOver, write_value};
-use tera_values::Value;
+use tera_values::{Kwargs, TeraResult, Value};
 
 /// The state that an object of these sees at a call: the scopes, the escape, and the built-in filters but those whose names are
 /// taken.
@@ -79,4 +82,28 @@ pub(crate) fn write_by(
         escape: &lent,
     };
     write_value(alloc, escaping, value, out)
+}
+
+/// What a filter that is built in makes of a value, where texts are escaped by this.
+#[inline(never)]
+pub(crate) fn apply_by(
+    escape: &Option<Box<dyn EscapeFn>>,
+    alloc: Global,
+    autoescape: bool,
+    filter: BuiltInFilter,
+    value: &Value,
+    arguments: &Kwargs,
+) -> TeraResult<Value>
+    ensures { Gives (λ v. v) result (filter_of plain (record {
+      autoescape = autoescape;
+      escape = escape_or_html
+          (λ b. (⟦<dyn EscapeFn as EscapeFn>⟧ b.vtable).escaped b.value) escape.now;
+    }) filter value.now arguments.now) }
+{
+    let lent = lent_escape(escape);
+    let escaping = Escaping {
+        autoescape,
+        escape: &lent,
+    };
+    filter.call(alloc, value, arguments, escaping)
 }

@@ -1,12 +1,13 @@
 // What renders asks the caller's boxes.
-use crate::boxes::{escape_by, lent, write_by};
+use crate::boxes::{apply_by, escape_by, lent, write_by};
 use crate::call::Call;
 use crate::marked::marked_if;
 use crate::objects::Objects;
 use crate::over::CallerObjects;
 use std::alloc::{AllocError, Global};
+use tera_built_ins::BuiltInFilter;
 use tera_errors::Guess;
-use tera_values::{Error, Shape, TeraResult, Value};
+use tera_values::{Error, Kwargs, Shape, TeraResult, Value};
 
 impl Objects for CallerObjects {
     ghost use Rattle.tera_objects.specs.Kept.{engine_of};
@@ -50,6 +51,25 @@ impl Objects for CallerObjects {
 
     fn has_function(&self, name: &str) -> bool {
         self.knows_function(name)
+    }
+
+    fn has_own_filter(&self, name: &str) -> bool {
+        self.has_registered_filter(name)
+    }
+
+    fn has_own_test(&self, name: &str) -> bool {
+        self.has_registered_test(name)
+    }
+
+    fn apply_built_in(
+        &self,
+        alloc: Global,
+        autoescape: bool,
+        filter: BuiltInFilter,
+        value: &Value,
+        arguments: &Kwargs,
+    ) -> TeraResult<Value> {
+        apply_by(&self.escape, alloc, autoescape, filter, value, arguments)
     }
 
     fn call_filter(&self, call: Call<'_>, value: &Value) -> TeraResult<Value> {

@@ -1,14 +1,18 @@
 // What a rendering asks of an engine's objects.
-ghost use Rattle.std.specs.Prelude.{◌≡◌, ◌++◌, string_bytes, OnOk, OnErr};
+ghost use Rattle.std.specs.Prelude.{◌≡◌, ◌++◌, is_some, string_bytes, OnOk, OnErr};
 ghost use Rattle.tera_errors.specs.Prelude.{Gives};
+ghost use Rattle.tera_values.specs.Prelude.{at_name, plain};
+ghost use Rattle.tera_built_ins.specs.Filters.{filter_of};
 ghost use Rattle.tera_state.specs.Prelude.{rendered};
 ghost use Rattle.tera_objects.specs.Engine.{Engine, has_filter, has_test, has_function};
 ghost use Rattle.tera_objects.specs.Called.{filtered, tested, called};
+ghost use Rattle.tera_objects.specs.BuiltIn.{escaping_by};
 
 use crate::call::Call;
 use std::alloc::{AllocError, Global};
+use tera_built_ins::BuiltInFilter;
 use tera_errors::Guess;
-use tera_values::{TeraResult, Value};
+use tera_values::{Kwargs, TeraResult, Value};
 
 /// The escape of an engine, and its filters, tests and functions: what is built in, and the caller's own. What renders takes
 /// these by a type parameter, since no functions that call each other may name a trait object.
@@ -40,6 +44,26 @@ pub trait Objects: Drop {
     /// Whether the name stands for a function.
     fn has_function(&self, name: &str) -> bool
         ensures { result ≡ has_function (engine self.now) name.now };
+
+    /// Whether the caller registered a filter under the name.
+    fn has_own_filter(&self, name: &str) -> bool
+        ensures { result ≡ is_some (at_name name.now (engine self.now).filters) };
+
+    /// Whether the caller registered a test under the name.
+    fn has_own_test(&self, name: &str) -> bool
+        ensures { result ≡ is_some (at_name name.now (engine self.now).tests) };
+
+    /// What a filter that is built in makes of the value, with its own faults.
+    fn apply_built_in(
+        &self,
+        alloc: Global,
+        autoescape: bool,
+        filter: BuiltInFilter,
+        value: &Value,
+        arguments: &Kwargs,
+    ) -> TeraResult<Value>
+        ensures { Gives (λ v. v) result (filter_of plain (escaping_by (engine self.now) autoescape)
+            filter value.now arguments.now) };
 
     /// What the filter of this name makes of the value, with its own faults; a `Message` where there is none. An object sees
     /// the scopes, and whether texts are escaped.

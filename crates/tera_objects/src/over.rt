@@ -1,7 +1,7 @@
 // What is registered.
-ghost use Rattle.std.specs.Prelude.{◌≡◌, OnOk, OnErr, IfErr, option_map};
+ghost use Rattle.std.specs.Prelude.{◌≡◌, OnOk, OnErr, IfErr, is_some, option_map};
 ghost use Rattle.tera_errors.specs.Prelude.{Lacks};
-ghost use Rattle.tera_values.specs.Prelude.{escape_html};
+ghost use Rattle.tera_values.specs.Prelude.{at_name, escape_html};
 
 use crate::filters::OwnFilters;
 use crate::stored::Stored;
@@ -145,6 +145,22 @@ impl<E: Drop, F: Drop, T: Drop, G: Drop> ObjectsOver<E, F, T, G> {
                 None => None,
             },
         }
+    }
+
+    /// Whether a filter is registered under the name.
+    pub fn has_registered_filter(&self, name: &str) -> bool
+        ensures { (m : Meanings E F T G) →
+            result ≡ is_some (at_name name.now (engine_of m self.now).filters) }
+    {
+        self.filters.table.contains(name)
+    }
+
+    /// Whether a test is registered under the name.
+    pub fn has_registered_test(&self, name: &str) -> bool
+        ensures { (m : Meanings E F T G) →
+            result ≡ is_some (at_name name.now (engine_of m self.now).tests) }
+    {
+        self.tests.contains(name)
     }
 
     /// Whether the name stands for a filter.

@@ -1,10 +1,10 @@
 // The small calculations: with two integers, done where the left operand lies.
-ghost use Rattle.std.specs.Prelude.{◌≡◌, ◌*ℤ◌, ◌<ℤ◌, pos, Ok, IfSome};
+ghost use Rattle.std.specs.Prelude.{◌≡◌, ◌*ℤ◌, ◌<ℤ◌, pos, Ok, IfSome, IsTrue};
 ghost use Rattle.std.specs.Bool.{OnFalse, OnTrue};
 ghost use Rattle.tera_errors.specs.Prelude.{Name};
 ghost use Rattle.tera_errors.specs.declared.span.Span.{Span};
-ghost use Rattle.tera_values.specs.Prelude.{int, sum, difference, product, quotient, remainder};
-ghost use Rattle.tera_operators.specs.Operators.{Makes, binary_of};
+ghost use Rattle.tera_values.specs.Prelude.{bool, int, sum, difference, product, quotient, remainder};
+ghost use Rattle.tera_operators.specs.Operators.{Makes, binary_of, is_comparison};
 
 use crate::faults::spanning;
 use crate::operand::Operand;
@@ -49,6 +49,24 @@ fn made(operator: BinaryOperator, a: i128, b: i128) -> Option<Value>
         BinaryOperator::LessOrEqual => Some(Value::from_bool(a <= b)),
         BinaryOperator::GreaterOrEqual => Some(Value::from_bool(a >= b)),
         _ => None,
+    }
+}
+
+/// What an operator that compares says of two integers.
+#[inline(always)]
+#[tactic(auto, using(crate::proofs::InPlace::tells_less, crate::proofs::InPlace::tells_greater, crate::proofs::InPlace::tells_less_or_equal, crate::proofs::InPlace::tells_greater_or_equal))]
+pub fn compare_integers(operator: BinaryOperator, a: i128, b: i128) -> bool
+    requires { IsTrue (is_comparison operator) }
+    ensures { Makes operator (int a) (int b) (bool result) }
+{
+    match operator {
+        BinaryOperator::Equal => a == b,
+        BinaryOperator::NotEqual => a != b,
+        BinaryOperator::Less => a < b,
+        BinaryOperator::Greater => a > b,
+        BinaryOperator::LessOrEqual => a <= b,
+        BinaryOperator::GreaterOrEqual => a >= b,
+        _ => unreachable!(),
     }
 }
 

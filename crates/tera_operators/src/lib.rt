@@ -21,7 +21,7 @@ pub use array_literals::array;
 pub use calls::{arguments, operand_or_call_fault};
 pub use compare::{is_comparison, not};
 pub use faults::{fault_at, fault_of_value_at, operand_or_fault};
-pub use in_place::binary_in_place;
+pub use in_place::{binary_in_place, compare_integers};
 pub use listed::Entries;
 pub use map_literals::{entries, map};
 pub use operand::{LentOperand, Operand};

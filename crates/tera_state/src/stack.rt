@@ -1,5 +1,5 @@
 // A stack.
-ghost use Rattle.std.specs.Prelude.{◌≡◌, ◌≢◌, ◌<◌, ◌≤◌, ◌^◌, [], ◌∷◌, length, reverse, take, drop, slice_get, MatchOption, IfOk, OnOk, OnErr, IfErr, None, Some};
+ghost use Rattle.std.specs.Prelude.{◌≡◌, ◌≢◌, ◌<◌, ◌≤◌, ◌^◌, ◌↔◌, [], ◌∷◌, IsTrue, length, reverse, take, drop, slice_get, MatchOption, IfOk, OnOk, OnErr, IfErr, None, Some};
 ghost use Rattle.std.specs.Borrow.{sem};
 ghost use Rattle.tera_errors.specs.Prelude.{Lacks};
 
@@ -78,6 +78,14 @@ impl<T: Drop> Stack<T> {
         ensures value { slice_get self.old 0 ≡ Some result.now }
     {
         self.items.last_mut().unwrap()
+    }
+
+    /// Whether there is no value.
+    #[inline(always)]
+    pub fn is_empty(&self) -> bool
+        ensures { IsTrue result ↔ (self.now ≡ []) }
+    {
+        self.items.is_empty()
     }
 
     /// How many values there are.

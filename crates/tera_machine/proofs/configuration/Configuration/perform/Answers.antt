@@ -18,6 +18,3 @@ returns-in-Some-as_pop_jump_if_false-clause-stands g c = alone_stands _ c.requir
 
 pub returns-in-Some-as_jump-clause-stands : goal.returns-in-Some-as_jump-clause-stands
 returns-in-Some-as_jump-clause-stands g c = alone_stands _ c.requires.there
-
-pub returns-in-Some-as_integer-clause-stands : goal.returns-in-Some-as_integer-clause-stands
-returns-in-Some-as_integer-clause-stands g c = alone_stands _ c.requires.there

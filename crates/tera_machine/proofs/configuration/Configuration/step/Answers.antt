@@ -12,15 +12,3 @@ returns-in-Some-as_attribute-clause-stands g c = alone_stands _ c.requires.there
 
 pub returns-in-Some-as_store-clause-stands : goal.returns-in-Some-as_store-clause-stands
 returns-in-Some-as_store-clause-stands g c = alone_stands _ c.requires.there
-
-pub returns-in-Some-as_block-clause-stands : goal.returns-in-Some-as_block-clause-stands
-returns-in-Some-as_block-clause-stands g c = alone_stands _ c.requires.there
-
-pub returns-in-Some-as_include-clause-stands : goal.returns-in-Some-as_include-clause-stands
-returns-in-Some-as_include-clause-stands g c = alone_stands _ c.requires.there
-
-pub returns-in-Some-as_above-clause-stands : goal.returns-in-Some-as_above-clause-stands
-returns-in-Some-as_above-clause-stands g c = alone_stands _ c.requires.there
-
-pub returns-in-Some-as_component-clause-stands : goal.returns-in-Some-as_component-clause-stands
-returns-in-Some-as_component-clause-stands g c = alone_stands _ c.requires.there

@@ -1,0 +1,36 @@
+use Rattle.std.proofs.Common.{arith, refl, sym, subst, ◌∙◌, w64}
+use Rattle.std.proofs.lemmas.Int.{to_z-of_z}
+use Rattle.std.proofs.lemmas.Option.{slice_get_within}
+use Rattle.tera_values.specs.Val.{int}
+use Rattle.tera_operators.specs.Operators.{binary_of}
+use Rattle.tera_machine.specs.Config.{config_of}
+use Rattle.tera_machine.specs.Effect.{Effected, on_one}
+use Rattle.tera_machine.specs.Subject.{here_of}
+use Rattle.tera_machine.specs.Paths.{Stands, start_at}
+use Rattle.tera_machine.proofs.Loaded.{loads, two_is_one}
+use Rattle.tera_machine.proofs.Reaching.{alone_stands, more, more_did}
+use Rattle.tera_machine.proofs.configuration.Configuration.load_integer_and_apply.Goals as goal
+
+pub returns-then-is_empty-clause-stands : goal.returns-then-is_empty-clause-stands
+returns-then-is_empty-clause-stands g c = alone_stands _ c.requires.there
+
+pub overflow_add-at : goal.overflow_add-at
+overflow_add-at g c = omega (arith, slice_get_within c.args.chunk.now.code c.args.at.now _ c.requires.there, c.requires.few)
+
+pub overflow_add-at-in-Some : goal.overflow_add-at-in-Some
+overflow_add-at-in-Some g c = omega (arith, slice_get_within c.args.chunk.now.code c.args.at.now _ c.requires.there, c.requires.few)
+
+pub returns-in-Some-clause-stands : goal.returns-in-Some-clause-stands
+returns-in-Some-clause-stands g c = more (loads c.requires.there) c.in-Some.ensures.means refl c.in-Some.ensures.count
+
+pub returns-in-Some-clause-does : goal.returns-in-Some-clause-does
+returns-in-Some-clause-does g c =
+    let old = config_of c.args.self.now in
+    let here = here_of g.O.Objects.engine c.args.machine.now c.args.chunk.now.file c.args.self.now in
+    let did = more_did (loads {here = here} {c = old} {n = c.args.steps.now} c.requires.there) c.in-Some.ensures.means refl c.in-Some.ensures.count ∙ two_is_one (λ a b. binary_of c.args.chunk.now.file c.in-Some.operator a b c.in-Some.whole) (record { value = int c.args.number; span = c.args.span }) old.operands old in
+    let put = subst (λ f. Effected (on_one (λ a. binary_of f c.in-Some.operator a (record { value = int c.args.number; span = c.args.span }) c.in-Some.whole) old.operands old) c.operate_with.result (config_of c.operate_with.new.self)) c.file.ensures (subst (λ z. Effected (on_one (λ a. binary_of c.file.result.now c.in-Some.operator a (record { value = int z; span = c.args.span }) c.in-Some.whole) old.operands old) c.operate_with.result (config_of c.operate_with.new.self)) (to_z-of_z w64 c.args.number c.ranges.number) c.operate_with.ensures.0) in
+    (subst (λ d. Effected d c.operate_with.result (config_of c.operate_with.new.self)) (sym did) put, c.operate_with.ensures.1)
+
+pub returns-in-None-clause-stands : goal.returns-in-None-clause-stands
+returns-in-None-clause-stands g c =
+    subst (Stands (start_at (here_of g.O.Objects.engine c.args.machine.now c.args.chunk.now.file c.args.self.now) c.args.at.now c.args.steps.now (config_of c.args.self.now)) c.args.chunk.now.code c.args.at.now) (sym c.in-None.ensures.count) (alone_stands _ c.requires.there)

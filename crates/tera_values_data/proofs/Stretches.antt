@@ -3,7 +3,7 @@ use Rattle.std.proofs.Common.{◌≡◌, ℕ, zero, suc, ◌+◌, ◌-◌, ◌<�
 use Rattle.std.proofs.lemmas.Str.{IsCharBoundary-from_take}
 use Rattle.std.proofs.Math.Seq.{take-append_seam}
 use Rattle.std.specs.String.Boundary.{IsSplitPoint}
-use Rattle.std.proofs.lemmas.List.{append-nil, take_more, drop_more, get_or-drop, length-drop, take_all, drop_all}
+use Rattle.std.proofs.lemmas.List.{append-nil, drop_more, take_all, drop_all}
 use mathlib.Core.Bool.{true≢false}
 use Rattle.std.proofs.lemmas.Bool.{eqb-true}
 use Rattle.tera_values_data.specs.Growth.{Keeps, IsPlain, by_byte}
@@ -27,31 +27,40 @@ keeps_on a b c h g = record { more = h.more ++ g.more; is = g.is ∙ ap (λ (t :
 pub by_byte_more : (f : ℕ → List ℕ) (t : List ℕ) (p : ℕ) → p < length t → by_byte f (drop p t) ≡ f (get_or t p 0) ++ by_byte f (drop (p + 1) t)
 by_byte_more f t p h = ap (by_byte f) (drop_more t p 0 h)
 
--- a byte that stands for itself lengthens the stretch from s to p
-pub stretch_more : (f : ℕ → List ℕ) (t : List ℕ) (s p : ℕ) → s ≤ p → p < length t → f (get_or t p 0) ≡ get_or t p 0 ∷ [] → take (p - s) (drop s t) ++ by_byte f (drop p t) ≡ take (p + 1 - s) (drop s t) ++ by_byte f (drop (p + 1) t)
-stretch_more f t s p o h e =
-    let b : ℕ = get_or t p 0 in
-    let n : p + 1 - s ≡ (p - s) + 1 = omega arith in
-    let m : s + (p - s) ≡ p = omega arith in
-    let g : p - s < length (drop s t) = omega (arith, length-drop s t) in
-    let at : get_or (drop s t) (p - s) 0 ≡ b = get_or-drop s t (p - s) 0 ∙ ap (λ (i : ℕ). get_or t i 0) m in
-    let longer : take (p + 1 - s) (drop s t) ≡ take (p - s) (drop s t) ++ b ∷ [] = ap (λ (i : ℕ). take i (drop s t)) n ∙ take_more (drop s t) (p - s) 0 g ∙ ap (λ (x : ℕ). take (p - s) (drop s t) ++ x ∷ []) at in
-    let rest : by_byte f (drop p t) ≡ b ∷ by_byte f (drop (p + 1) t) = by_byte_more f t p h ∙ ap (λ (l : List ℕ). l ++ by_byte f (drop (p + 1) t)) e in
-    ap (λ (l : List ℕ). take (p - s) (drop s t) ++ l) rest ∙ sym (ap (λ (l : List ℕ). l ++ by_byte f (drop (p + 1) t)) longer ∙ append_assoc (take (p - s) (drop s t)) (b ∷ []) (by_byte f (drop (p + 1) t)))
+-- a byte is written in its form
+pub wrote_byte : (f : ℕ → List ℕ) (t : List ℕ) (p : ℕ) (out later whole : List ℕ) → p < length t → later ≡ out ++ f (get_or t p 0) → out ++ by_byte f (drop p t) ≡ whole → later ++ by_byte f (drop (p + 1) t) ≡ whole
+wrote_byte f t p out later whole h l w =
+    let rest : List ℕ = by_byte f (drop (p + 1) t) in
+    ap (λ (x : List ℕ). x ++ rest) l
+    ∙ append_assoc out (f (get_or t p 0)) rest
+    ∙ ap (λ (x : List ℕ). out ++ x) (sym (by_byte_more f t p h))
+    ∙ w
 
--- a stretch and the form after it are written, and the next stretch is empty
-pub stretch_done : (f : ℕ → List ℕ) (t : List ℕ) (s p : ℕ) (out later end form : List ℕ) → p < length t → f (get_or t p 0) ≡ form → later ≡ out ++ take (p - s) (drop s t) → end ≡ later ++ form → out ++ (take (p - s) (drop s t) ++ by_byte f (drop p t)) ≡ end ++ (take (p + 1 - (p + 1)) (drop (p + 1) t) ++ by_byte f (drop (p + 1) t))
-stretch_done f t s p out later end form h e l g =
-    let n : p + 1 - (p + 1) ≡ 0 = omega arith in
-    let rest : by_byte f (drop p t) ≡ form ++ by_byte f (drop (p + 1) t) = by_byte_more f t p h ∙ ap (λ (x : List ℕ). x ++ by_byte f (drop (p + 1) t)) e in
-    let stretch : List ℕ = take (p - s) (drop s t) in
-    let after : List ℕ = by_byte f (drop (p + 1) t) in
-    ap (λ (x : List ℕ). out ++ (stretch ++ x)) rest
-    ∙ sym (append_assoc out stretch (form ++ after))
-    ∙ ap (λ (x : List ℕ). x ++ (form ++ after)) (sym l)
-    ∙ sym (append_assoc later form after)
-    ∙ ap (λ (x : List ℕ). x ++ after) (sym g)
-    ∙ ap (λ (i : ℕ). end ++ (take i (drop (p + 1) t) ++ after)) (sym n)
+-- bytes that stand for themselves come first, and then the rest in its forms
+pub plain_first : (f : ℕ → List ℕ) (t : List ℕ) (p n : ℕ) → p + n ≤ length t → IsPlain f t p (p + n) → by_byte f (drop p t) ≡ take n (drop p t) ++ by_byte f (drop (p + n) t)
+plain_first f t p zero h plain = let same : p ≡ p + zero = omega arith in ap (λ (q : ℕ). by_byte f (drop q t)) same
+plain_first f t p (suc n) h plain =
+    let b : ℕ = get_or t p 0 in
+    let here : p < length t = omega arith in
+    let itself : f b ≡ b ∷ [] = plain p (omega arith) (omega arith) in
+    let rest = plain_first f t (p + 1) n (omega arith) (λ k low high. plain k (omega arith) (omega arith)) in
+    let same : p + 1 + n ≡ p + suc n = omega arith in
+    by_byte_more f t p here
+    ∙ ap (λ (x : List ℕ). x ++ by_byte f (drop (p + 1) t)) itself
+    ∙ ap (λ (x : List ℕ). b ∷ x) rest
+    ∙ ap (λ (q : ℕ). b ∷ (take n (drop (p + 1) t) ++ by_byte f (drop q t))) same
+    ∙ ap (λ (x : List ℕ). take (suc n) x ++ by_byte f (drop (p + suc n) t)) (sym (drop_more t p 0 here))
+
+-- a stretch of them is written
+pub wrote_stretch : (f : ℕ → List ℕ) (t : List ℕ) (p q : ℕ) (out later whole : List ℕ) → p ≤ q → q ≤ length t → IsPlain f t p q → later ≡ out ++ take (q - p) (drop p t) → out ++ by_byte f (drop p t) ≡ whole → later ++ by_byte f (drop q t) ≡ whole
+wrote_stretch f t p q out later whole o h plain l w =
+    let same : p + (q - p) ≡ q = omega arith in
+    let stretch : List ℕ = take (q - p) (drop p t) in
+    let first : by_byte f (drop p t) ≡ stretch ++ by_byte f (drop q t) = plain_first f t p (q - p) (omega arith) (λ k low high. plain k low (omega arith)) ∙ ap (λ (r : ℕ). stretch ++ by_byte f (drop r t)) same in
+    ap (λ (x : List ℕ). x ++ by_byte f (drop q t)) l
+    ∙ append_assoc out stretch (by_byte f (drop q t))
+    ∙ ap (λ (x : List ℕ). out ++ x) (sym first)
+    ∙ w
 
 -- what was there may be cut out again
 pub split_point : (old new : List ℕ) → IsUtf8 old → IsUtf8 new → Keeps old new → IsSplitPoint new (length old)
@@ -61,25 +70,11 @@ split_point old new u v h =
     let at = IsCharBoundary-from_take new (length old) v within (rw same u) in
     (within, λ _ more. at.1 more)
 
--- bytes that stand for themselves lengthen the stretch from s to p up to q
-pub stretch_on : (f : ℕ → List ℕ) (t : List ℕ) (s p n : ℕ) → s ≤ p → p + n ≤ length t → IsPlain f t p (p + n) → take (p - s) (drop s t) ++ by_byte f (drop p t) ≡ take (p + n - s) (drop s t) ++ by_byte f (drop (p + n) t)
-stretch_on f t s p zero o h plain = let same : p ≡ p + zero = omega arith in ap (λ (q : ℕ). take (q - s) (drop s t) ++ by_byte f (drop q t)) same
-stretch_on f t s p (suc n) o h plain =
-    let one = stretch_more f t s p o (omega arith) (plain p (omega arith) (omega arith)) in
-    let rest = stretch_on f t s (p + 1) n (omega arith) (omega arith) (λ k low high. plain k (omega arith) (omega arith)) in
-    let same : p + 1 + n ≡ p + suc n = omega arith in
-    one ∙ rest ∙ ap (λ (q : ℕ). take (q - s) (drop s t) ++ by_byte f (drop q t)) same
-
-pub stretch_to : (f : ℕ → List ℕ) (t : List ℕ) (s p q : ℕ) → s ≤ p → p ≤ q → q ≤ length t → IsPlain f t p q → take (p - s) (drop s t) ++ by_byte f (drop p t) ≡ take (q - s) (drop s t) ++ by_byte f (drop q t)
-stretch_to f t s p q o le h plain =
-    let same : p + (q - p) ≡ q = omega arith in
-    stretch_on f t s p (q - p) o (omega arith) (λ k low high. plain k low (omega arith)) ∙ ap (λ (r : ℕ). take (r - s) (drop s t) ++ by_byte f (drop r t)) same
-
 -- where all bytes stand for themselves, so does the text
 pub plain_text : (f : ℕ → List ℕ) (t : List ℕ) → IsPlain f t 0 (length t) → by_byte f t ≡ t
 plain_text f t plain =
-    stretch_to f t 0 0 (length t) (omega arith) (omega arith) (omega arith) plain
-    ∙ ap (λ (n : ℕ). take n t ++ by_byte f (drop (length t) t)) (omega arith)
+    plain_first f t 0 (length t) (omega arith) (λ k low high. plain k low (omega arith))
+    ∙ ap (λ (n : ℕ). take (length t) t ++ by_byte f (drop n t)) (omega arith)
     ∙ ap (λ (x : List ℕ). x ++ by_byte f (drop (length t) t)) (take_all (length t) t (omega arith))
     ∙ ap (λ (x : List ℕ). t ++ by_byte f x) (drop_all (length t) t (omega arith))
     ∙ append-nil t

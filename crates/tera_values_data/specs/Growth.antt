@@ -1,5 +1,5 @@
 -- Texts that only grow, and texts in which bytes stand in other forms.
-use Rattle.std.specs.Prelude.{◌≡◌, ℕ, ◌<◌, ◌≤◌, Bool, false, ◌||◌, cond, nat_eq, List, [], ◌∷◌, ◌++◌, Option, Some, None, slice_index_or}
+use Rattle.std.specs.Prelude.{◌≡◌, ℕ, ◌<◌, ◌≤◌, Bool, false, ◌||◌, cond, nat_eq, List, [], ◌∷◌, ◌++◌, slice_index_or}
 
 -- what was there is still there, with more after it
 pub record Keeps (old new : List ℕ) : Type 0 where
@@ -15,11 +15,6 @@ by_byte form (b ∷ bs) = form b ++ by_byte form bs
 abbrev pub form_in : List (ℕ × List ℕ) → ℕ → List ℕ
 form_in [] b = b ∷ []
 form_in (row ∷ rows) b = cond (nat_eq b row.0) row.1 (form_in rows b)
-
--- a form of its own, or the byte itself
-abbrev pub form_or_byte : ℕ → Option (List ℕ) → List ℕ
-form_or_byte b None = b ∷ []
-form_or_byte b (Some form) = form
 
 -- the bytes from position i up to position j stand for themselves
 abbrev pub IsPlain : (ℕ → List ℕ) → List ℕ → ℕ → ℕ → Type 0

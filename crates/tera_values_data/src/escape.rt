@@ -1,9 +1,10 @@
 // Texts in which some bytes stand in another form: markup, and quoted texts.
-ghost use Rattle.std.specs.Prelude.{◌≡◌, ◌++◌, [], ◌+◌, ◌<◌, ◌≤◌, ℕ, List, length, IsSome, OnOk, OnErr, IfErr, string_bytes, option_map};
+ghost use Rattle.std.specs.Prelude.{◌≡◌, ◌++◌, ◌∷◌, [], ◌+◌, ◌<◌, ◌≤◌, ℕ, List, drop, length, true, false, IsTrue, IsFalse, Ok, OnOk, OnErr, IfOk, IfErr, slice_index_or, string_bytes};
+ghost use Rattle.std.specs.Str.{IsCharBoundary};
 ghost use Rattle.tera_errors.specs.Prelude.{Lacks};
 ghost use Rattle.tera_values_data.specs.Escape.{escape_byte, escape_html, escape_xml_byte, escape_xml};
 ghost use Rattle.tera_values_data.specs.Printed.{quoted, quoted_byte};
-ghost use Rattle.tera_values_data.specs.Growth.{Keeps, IsPlain, IsNever, by_byte, form_or_byte, is_one_of};
+ghost use Rattle.tera_values_data.specs.Growth.{Keeps, IsPlain, IsNever, by_byte, is_one_of};
 
 use std::alloc::AllocError;
 use std::simd::prelude::*;
@@ -36,10 +37,20 @@ fn append_stretch(stretch: &str, out: &mut String) -> Result<(), AllocError>
 trait Forms {
     ghost spelled: { ℕ → List ℕ };
 
-    /// The form of the byte, or none where it stands for itself.
-    fn form(byte: u8) -> Option<&'static str>
-        ensures form { form_or_byte byte (option_map (λ form. form.now) result) ≡ spelled byte }
-        ensures ascii { IsSome result → byte < 128 };
+    /// Whether the byte stands in another form.
+    fn has_form(byte: u8) -> bool
+        ensures plain { IsFalse result → spelled byte ≡ byte ∷ [] }
+        ensures ascii { IsTrue result → byte < 128 };
+
+    /// Appends the form of the byte, where it has one, and says whether it has. Each arm has a constant form, so that its
+    /// length is known when this is compiled.
+    fn append_form(byte: u8, out: &mut String) -> Result<bool, AllocError>
+        ensures ok { result ≡ Ok true
+            → string_bytes out.new ≡ string_bytes out.old ++ spelled byte }
+        ensures ascii { result ≡ Ok true → byte < 128 }
+        ensures unchanged { result ≡ Ok false → string_bytes out.new ≡ string_bytes out.old }
+        ensures plain { result ≡ Ok false → spelled byte ≡ byte ∷ [] }
+        ensures keeps { Keeps (string_bytes out.old) (string_bytes out.new) };
 
     /// How many of the sixteen bytes from a position on stand for themselves, before one that may not.
     fn plain_lanes(bytes: &[u8], from: usize) -> usize
@@ -76,15 +87,29 @@ impl Forms for Markup {
     ghost spelled = { escape_byte };
 
     #[inline]
-    fn form(byte: u8) -> Option<&'static str> {
+    fn has_form(byte: u8) -> bool {
+        // Signs that stand in arms of their own are asked for by one test of a bit.
         match byte {
-            b'&' => Some("&amp;"),
-            b'<' => Some("&lt;"),
-            b'>' => Some("&gt;"),
-            b'"' => Some("&quot;"),
-            b'\'' => Some("&#x27;"),
-            _ => None,
+            b'"' => true,
+            b'&' => true,
+            b'\'' => true,
+            b'<' => true,
+            b'>' => true,
+            _ => false,
         }
+    }
+
+    #[inline(always)]
+    fn append_form(byte: u8, out: &mut String) -> Result<bool, AllocError> {
+        match byte {
+            b'&' => append("&amp;", out)?,
+            b'<' => append("&lt;", out)?,
+            b'>' => append("&gt;", out)?,
+            b'"' => append("&quot;", out)?,
+            b'\'' => append("&#x27;", out)?,
+            _ => return Ok(false),
+        }
+        Ok(true)
     }
 
     #[inline]
@@ -100,11 +125,17 @@ impl Forms for Xml {
     ghost spelled = { escape_xml_byte };
 
     #[inline]
-    fn form(byte: u8) -> Option<&'static str> {
+    fn has_form(byte: u8) -> bool {
+        Markup::has_form(byte)
+    }
+
+    #[inline(always)]
+    fn append_form(byte: u8, out: &mut String) -> Result<bool, AllocError> {
         match byte {
-            b'\'' => Some("&apos;"),
-            _ => Markup::form(byte),
+            b'\'' => append("&apos;", out)?,
+            _ => return Markup::append_form(byte, out),
         }
+        Ok(true)
     }
 
     #[inline]
@@ -120,15 +151,21 @@ impl Forms for Quotes {
     ghost spelled = { quoted_byte };
 
     #[inline]
-    fn form(byte: u8) -> Option<&'static str> {
+    fn has_form(byte: u8) -> bool {
+        matches!(byte, b'\\' | b'"' | b'\n' | b'\r' | b'\t')
+    }
+
+    #[inline(always)]
+    fn append_form(byte: u8, out: &mut String) -> Result<bool, AllocError> {
         match byte {
-            b'\\' => Some("\\\\"),
-            b'"' => Some("\\\""),
-            b'\n' => Some("\\n"),
-            b'\r' => Some("\\r"),
-            b'\t' => Some("\\t"),
-            _ => None,
+            b'\\' => append("\\\\", out)?,
+            b'"' => append("\\\"", out)?,
+            b'\n' => append("\\n", out)?,
+            b'\r' => append("\\r", out)?,
+            b'\t' => append("\\t", out)?,
+            _ => return Ok(false),
         }
+        Ok(true)
     }
 
     #[inline]
@@ -164,27 +201,47 @@ fn next_form<F: Forms>(bytes: &[u8], from: usize) -> usize
     ensures low { from ≤ result }
     ensures high { result ≤ length bytes.now }
     ensures plain { IsPlain F.spelled bytes.now from result }
+    ensures ascii { result < length bytes.now → slice_index_or bytes.now result 0 < 128 }
 {
     let mut position = plain_stretch::<F>(bytes, from);
-    while position < bytes.len() && F::form(bytes[position]).is_none() {
+    while position < bytes.len() && !F::has_form(bytes[position]) {
         position += 1;
     }
     position
 }
 
-/// The same from the fifth byte of a stretch on, since the next form is often near; up to there the position itself.
+/// So many bytes behind a form are appended one by one, since the next form is often near.
+const NEAR: usize = 8;
+
+/// Appends the text from a position on, byte by byte while a form is near, and says up to where. It stops at a character of
+/// more than one byte, too.
 #[inline]
-fn next_of_stretch<F: Forms>(bytes: &[u8], stretch: usize, from: usize) -> usize
-    requires { from ≤ length bytes.now }
-    ensures low { from ≤ result }
-    ensures high { result ≤ length bytes.now }
-    ensures plain { IsPlain F.spelled bytes.now from result }
+fn append_near<F: Forms>(text: &str, from: usize, out: &mut String) -> Result<usize, AllocError>
+    requires cut { IsCharBoundary text.now from }
+    ensures cut { IfOk result (λ to. IsCharBoundary text.now to) }
+    ensures low { IfOk result (λ to. from ≤ to) }
+    ensures ahead { IfOk result (λ to. from < length text.now
+        → slice_index_or text.now from 0 < 128 → from < to) }
+    ensures ok { IfOk result (λ to. string_bytes out.new ++ by_byte F.spelled (drop to text.now)
+        ≡ string_bytes out.old ++ by_byte F.spelled (drop from text.now)) }
+    ensures keeps { Keeps (string_bytes out.old) (string_bytes out.new) }
 {
-    if stretch < 4 {
-        from
-    } else {
-        next_form::<F>(bytes, from)
+    let bytes = text.as_bytes();
+    let mut position = from;
+    let mut left = NEAR;
+    while position < bytes.len() {
+        let byte = bytes[position];
+        if F::append_form(byte, out)? {
+            left = NEAR;
+        } else if 0 < left && byte < 128 {
+            out.push(byte as char)?;
+            left -= 1;
+        } else {
+            return Ok(position);
+        }
+        position += 1;
     }
+    Ok(position)
 }
 
 /// Appends the text, stretch by stretch between the bytes that have a form of their own.
@@ -195,16 +252,12 @@ fn append_forms<F: Forms>(text: &str, out: &mut String) -> Result<(), AllocError
 {
     let bytes = text.as_bytes();
     let mut start = 0;
-    let mut position = next_form::<F>(bytes, 0);
-    while position < bytes.len() {
-        if let Some(form) = F::form(bytes[position]) {
-            append_stretch(&text[start..position], out)?;
-            append(form, out)?;
-            start = position + 1;
-        }
-        position = next_of_stretch::<F>(bytes, position + 1 - start, position + 1);
+    while start < bytes.len() {
+        let position = next_form::<F>(bytes, start);
+        append_stretch(&text[start..position], out)?;
+        start = append_near::<F>(text, position, out)?;
     }
-    append(&text[start..], out)
+    Ok(())
 }
 
 /// Appends the text between quotes.

@@ -1,5 +1,5 @@
 // The words of a text.
-ghost use Rattle.std.specs.Prelude.{◌≡◌};
+ghost use Rattle.std.specs.Prelude.{◌≡◌, IsAscii};
 ghost use Rattle.tera_errors.specs.Prelude.{Gives};
 ghost use Rattle.tera_values.specs.Prelude.{plain};
 ghost use Rattle.tera_built_ins.specs.Words.{word_count, wordcount_of};
@@ -8,8 +8,37 @@ use crate::arguments::as_text;
 use std::alloc::Global;
 use tera_values::{TeraResult, Value};
 
-/// A word begins at each character that is no white space, and has none of a word before it.
+/// How many words the text has. One begins at each character that is no white space, and has none of a word before it.
 fn word_count(text: &str) -> usize
+    ensures { result ≡ word_count text.now }
+{
+    if text.is_ascii() {
+        ascii_word_count(text.as_bytes())
+    } else {
+        letters_word_count(text)
+    }
+}
+
+/// The same of ASCII, whose characters are its bytes. Its remainder is the byte itself: it says that no more than ASCII needs
+/// to be asked.
+fn ascii_word_count(bytes: &[u8]) -> usize
+    requires { IsAscii bytes.now }
+    ensures { result ≡ word_count bytes.now }
+{
+    let mut count: usize = 0;
+    let mut inside = false;
+    for byte in bytes {
+        let white = ((*byte % 128) as char).is_whitespace();
+        if !white && !inside {
+            count += 1;
+        }
+        inside = !white;
+    }
+    count
+}
+
+/// The same of any text.
+fn letters_word_count(text: &str) -> usize
     ensures { result ≡ word_count text.now }
 {
     let mut count: usize = 0;

@@ -1,7 +1,7 @@
 use Rattle.std.proofs.Common.{◌≡◌, ◌≤◌, ◌+◌, false, length, drop}
 use Rattle.std.specs.Str.{chars}
 use Rattle.tera_built_ins.proofs.Begun.{begun}
-use Rattle.tera_built_ins.proofs.words.word_count.Given as goal
+use Rattle.tera_built_ins.proofs.words.letters_word_count.Given as goal
 
 abbrev pub invariant-loop-letter : goal.invariant-loop-letter
 invariant-loop-letter l = record {

@@ -5,7 +5,7 @@ use Rattle.std.proofs.lemmas.List.{at_drop_all, length_push}
 use Rattle.std.proofs.lemmas.Iterator.Consumers.{YieldsList-turn, YieldsList-end}
 use Rattle.std.proofs.lemmas.Bool.Decides.{nat_tests}
 use Rattle.tera_built_ins.proofs.Begun.{begun, begun-is, begun-drop}
-use Rattle.tera_built_ins.proofs.words.word_count.Goals as goal
+use Rattle.tera_built_ins.proofs.words.letters_word_count.Goals as goal
 
 pub loop-letter-preserved : goal.loop-letter-preserved
 loop-letter-preserved c =

@@ -1,9 +1,10 @@
 // One instruction, by groups.
-ghost use Rattle.std.specs.Prelude.{◌≡◌, ◌≢◌, Ok, Some, None, true, false, IfOk, IfErr};
+ghost use Rattle.std.specs.Prelude.{◌≡◌, ◌≢◌, [], Ok, Some, None, true, false, IfOk, IfErr};
 ghost use Rattle.tera_errors.specs.Prelude.{Tells, Lacks, Site, rendering_error};
+ghost use Rattle.tera_operators.specs.Operators.{binary_of};
 ghost use Rattle.tera_machine.specs.Config.{config_of};
 ghost use Rattle.tera_machine.specs.Did.{pushed, holding};
-ghost use Rattle.tera_machine.specs.Effect.{effect, IsReady, IsSmall, Does, going_on, going_on_if, text_written, outcome_put, top_written, name_written, name_loaded, context_loaded, stored, attribute_loaded, item_loaded, sliced, denied, negated, operated, handed, component_taken, popped_branch, kept_if, above_taken, topmost};
+ghost use Rattle.tera_machine.specs.Effect.{effect, IsReady, IsSmall, Does, going_on, going_on_if, text_written, outcome_put, top_written, name_written, name_loaded, context_loaded, stored, attribute_loaded, item_loaded, sliced, denied, negated, operated, handed, component_taken, popped_branch, kept_if, above_taken, topmost, on_one};
 ghost use Rattle.tera_machine.specs.Subject.{here_of};
 ghost use Rattle.tera_machine.specs.declared.machine.Flow.TheVariants as flow;
 ghost use Rattle.tera_state.specs.Prelude.{around_of};
@@ -345,10 +346,27 @@ impl<'c> Configuration<'c> {
         ensures { Does (operated file.now operator span) self.old result self.new }
     {
         let right = self.operands.take();
-        // The answer takes the left operand's place. Most calculations are with small integers, of which a number alone changes.
+        self.apply(alloc, file, operator, &right, span)
+    }
+
+    // What the operator makes of the topmost operand and one on its right takes the place of the topmost. Most calculations are
+    // with small integers, of which a number alone changes.
+    #[inline(always)]
+    pub(crate) fn apply<'f>(
+        &mut self,
+        alloc: Global,
+        file: &str,
+        operator: BinaryOperator,
+        right: &Operand,
+        span: Span,
+    ) -> Going<'f>
+        requires { self.old.operands ≢ [] }
+        ensures { Does (λ c. on_one (λ a. binary_of file.now operator a right.now span)
+            c.operands c) self.old result self.new }
+    {
         let left = self.operands.top_mut();
-        if !tera_operators::binary_in_place(operator, left, &right) {
-            *left = tera_operators::binary(alloc, file, operator, left, &right, span)?;
+        if !tera_operators::binary_in_place(operator, left, right) {
+            *left = tera_operators::binary(alloc, file, operator, left, right, span)?;
         }
         Ok(Flow::On)
     }

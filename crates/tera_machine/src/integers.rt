@@ -17,7 +17,7 @@ ghost use Rattle.tera_machine.specs.Paths.{Stands, start_at, truth_of};
 
 use crate::configuration::Configuration;
 use crate::instructions::going_on;
-use crate::machine::{Flow, Going, VirtualMachine};
+use crate::machine::{Going, VirtualMachine};
 use std::alloc::Global;
 use tera_code::{Chunk, IntegerComparison, Steps, Tally};
 use tera_objects::Objects;
@@ -147,27 +147,6 @@ impl<'c> Configuration<'c> {
     {
         let right = Operand::new(Value::from_int(i128::from(number)), span);
         self.apply(alloc, file, operator, &right, whole)
-    }
-
-    // The same with any operand on its right.
-    #[inline(always)]
-    fn apply<'f>(
-        &mut self,
-        alloc: Global,
-        file: &str,
-        operator: BinaryOperator,
-        right: &Operand,
-        span: Span,
-    ) -> Going<'f>
-        requires { self.old.operands ≢ [] }
-        ensures { Does (λ c. on_one (λ a. binary_of file.now operator a right.now span)
-            c.operands c) self.old result self.new }
-    {
-        let left = self.operands.top_mut();
-        if !tera_operators::binary_in_place(operator, left, right) {
-            *left = tera_operators::binary(alloc, file, operator, left, right, span)?;
-        }
-        Ok(Flow::On)
     }
 }
 

@@ -17,9 +17,9 @@ pub use engine::{Tera, TeraOver};
 // Values, names and errors.
 pub use tera_errors::{Place, Sources, lacking, place_of};
 pub use tera_values::{
-    ArgFromValue, Context, Counter, Error, ErrorKind, Key, Kwargs, Map, Name, ReportError, Shape,
-    Sought, Span, StringInput, TeraResult, Value, ValueKind, WritesValues, escape_html, escape_xml,
-    number,
+    ArgFromValue, Arguments, Context, Counter, Error, ErrorKind, Key, Kwargs, Map, Name,
+    ReportError, Shape, Sought, Span, StringInput, TeraResult, Value, ValueKind, WritesValues,
+    escape_html, escape_xml, number,
 };
 pub use tera_values_data::copy_items;
 // Templates as trees, and components.

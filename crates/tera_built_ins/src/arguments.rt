@@ -7,7 +7,7 @@ ghost use Rattle.tera_built_ins.specs.Reading.{given_of};
 
 use std::alloc::Global;
 use tera_values::refusals::unfit;
-use tera_values::{Error, Kwargs, Map, Shape, TeraResult, Value};
+use tera_values::{Arguments, Error, Map, Shape, TeraResult, Value};
 
 /// A text, and whether it is marked safe.
 #[derive(Clone, Copy)]
@@ -115,7 +115,10 @@ fn out_of_range(alloc: Global, argument: &str, number: i128) -> Error
 }
 
 /// A text that may be left out.
-pub(crate) fn optional_text<'a>(arguments: &'a Kwargs, name: &str) -> TeraResult<Option<Given<'a>>>
+pub(crate) fn optional_text<'a>(
+    arguments: &Arguments<'a>,
+    name: &str,
+) -> TeraResult<Option<Given<'a>>>
     ensures { Gives (λ o. option_map given_of o) result
         (spec.optional spec.as_text name.now arguments.now) }
 {
@@ -130,7 +133,7 @@ pub(crate) fn optional_text<'a>(arguments: &'a Kwargs, name: &str) -> TeraResult
 
 /// A text that must be there.
 #[inline(always)]
-pub(crate) fn needed_text<'a>(arguments: &'a Kwargs, name: &str) -> TeraResult<Given<'a>>
+pub(crate) fn needed_text<'a>(arguments: &Arguments<'a>, name: &str) -> TeraResult<Given<'a>>
     ensures { Gives given_of result (spec.needed spec.as_text name.now arguments.now) }
 {
     match arguments.value(name) {
@@ -141,7 +144,7 @@ pub(crate) fn needed_text<'a>(arguments: &'a Kwargs, name: &str) -> TeraResult<G
 
 /// The bytes of a text, or the default where it is left out.
 pub(crate) fn text_or<'a>(
-    arguments: &'a Kwargs,
+    arguments: &Arguments<'a>,
     name: &str,
     default: &'a str,
 ) -> TeraResult<&'a str>
@@ -158,7 +161,7 @@ pub(crate) fn text_or<'a>(
 }
 
 /// A value of any kind that must be there.
-pub(crate) fn needed_value<'a>(arguments: &'a Kwargs, name: &str) -> TeraResult<&'a Value>
+pub(crate) fn needed_value<'a>(arguments: &Arguments<'a>, name: &str) -> TeraResult<&'a Value>
     ensures { Gives (λ v. v.now) result (spec.needed spec.as_any name.now arguments.now) }
 {
     match arguments.value(name) {
@@ -169,7 +172,7 @@ pub(crate) fn needed_value<'a>(arguments: &'a Kwargs, name: &str) -> TeraResult<
 
 /// An integer that must be there.
 #[inline(always)]
-pub(crate) fn needed_integer(arguments: &Kwargs, name: &str) -> TeraResult<i128>
+pub(crate) fn needed_integer(arguments: &Arguments<'_>, name: &str) -> TeraResult<i128>
     ensures { Gives (λ z. z) result (spec.needed spec.as_integer name.now arguments.now) }
 {
     match arguments.value(name) {
@@ -179,7 +182,7 @@ pub(crate) fn needed_integer(arguments: &Kwargs, name: &str) -> TeraResult<i128>
 }
 
 /// An integer, or the default where it is left out.
-pub(crate) fn integer_or(arguments: &Kwargs, name: &str, default: i128) -> TeraResult<i128>
+pub(crate) fn integer_or(arguments: &Arguments<'_>, name: &str, default: i128) -> TeraResult<i128>
     ensures { Gives (λ z. z) result
         (spec.or_default default spec.as_integer name.now arguments.now) }
 {
@@ -190,7 +193,7 @@ pub(crate) fn integer_or(arguments: &Kwargs, name: &str, default: i128) -> TeraR
 }
 
 /// A size that must be there.
-pub(crate) fn needed_size(arguments: &Kwargs, name: &str) -> TeraResult<usize>
+pub(crate) fn needed_size(arguments: &Arguments<'_>, name: &str) -> TeraResult<usize>
     ensures { Gives (λ n. n) result
         (spec.needed (spec.as_natural (2 ^ 64)) name.now arguments.now) }
 {
@@ -201,7 +204,7 @@ pub(crate) fn needed_size(arguments: &Kwargs, name: &str) -> TeraResult<usize>
 }
 
 /// A size, or the default where it is left out.
-pub(crate) fn size_or(arguments: &Kwargs, name: &str, default: usize) -> TeraResult<usize>
+pub(crate) fn size_or(arguments: &Arguments<'_>, name: &str, default: usize) -> TeraResult<usize>
     ensures { Gives (λ n. n) result
         (spec.or_default default (spec.as_natural (2 ^ 64)) name.now arguments.now) }
 {
@@ -210,7 +213,7 @@ pub(crate) fn size_or(arguments: &Kwargs, name: &str, default: usize) -> TeraRes
 
 /// An integer from 0 to `most`, or the default where it is left out.
 pub(crate) fn natural_or(
-    arguments: &Kwargs,
+    arguments: &Arguments<'_>,
     name: &str,
     default: usize,
     most: usize,
@@ -225,7 +228,7 @@ pub(crate) fn natural_or(
 }
 
 /// A truth value, or false where it is left out.
-pub(crate) fn flag(arguments: &Kwargs, name: &str) -> TeraResult<bool>
+pub(crate) fn flag(arguments: &Arguments<'_>, name: &str) -> TeraResult<bool>
     ensures { Gives (λ b. b) result
         (spec.or_default false spec.as_bool name.now arguments.now) }
 {

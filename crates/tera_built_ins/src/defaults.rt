@@ -3,10 +3,10 @@ ghost use Rattle.tera_errors.specs.Prelude.{Gives};
 ghost use Rattle.tera_built_ins.specs.Defaults.{default_of};
 
 use crate::arguments::{flag, needed_value};
-use tera_values::{Kwargs, TeraResult, Value};
+use tera_values::{Arguments, TeraResult, Value};
 
 /// `value` where there is none, and with `boolean` where there is a false one; else what there is.
-pub fn default(value: &Value, arguments: &Kwargs) -> TeraResult<Value>
+pub fn default(value: &Value, arguments: &Arguments<'_>) -> TeraResult<Value>
     ensures { Gives (λ v. v) result (default_of value.now arguments.now) }
 {
     let other = needed_value(arguments, "value")?;

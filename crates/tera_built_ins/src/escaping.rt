@@ -3,7 +3,7 @@ ghost use Rattle.std.specs.Prelude.{◌≡◌, ◌++◌, string_bytes, OnOk, OnE
 ghost use Rattle.tera_errors.specs.Prelude.{Text, Lacks};
 
 use std::alloc::Global;
-use tera_values::{Kwargs, TeraResult, Value, escape_html};
+use tera_values::{Arguments, TeraResult, Value, escape_html};
 
 /// What escapes texts.
 pub trait EscapeFn: Drop {
@@ -68,6 +68,6 @@ impl<'e, E: EscapeFn> Escaping<'e, E> {
 pub struct Filtering<'a, E> {
     pub alloc: Global,
     pub value: &'a Value,
-    pub arguments: &'a Kwargs,
+    pub arguments: &'a Arguments<'a>,
     pub escaping: Escaping<'a, E>,
 }

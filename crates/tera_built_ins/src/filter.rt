@@ -12,7 +12,7 @@ use crate::{
     sorting, split, trims, truncate, words,
 };
 use std::alloc::Global;
-use tera_values::{Kwargs, TeraResult, Value};
+use tera_values::{Arguments, TeraResult, Value};
 
 /// A filter that every engine has.
 #[derive(Clone, Copy)]
@@ -126,7 +126,7 @@ impl BuiltInFilter {
         self,
         alloc: Global,
         value: &Value,
-        arguments: &Kwargs,
+        arguments: &Arguments<'_>,
         escaping: Escaping<'_, E>,
     ) -> TeraResult<Value>
         ensures { Gives (λ v. v) result

@@ -6,7 +6,7 @@ ghost use Rattle.tera_built_ins.specs.FunctionTable.{function_named, function_of
 
 use crate::functions;
 use std::alloc::Global;
-use tera_values::{Kwargs, TeraResult, Value};
+use tera_values::{Arguments, TeraResult, Value};
 
 /// A function that every engine has.
 #[derive(Clone, Copy)]
@@ -28,7 +28,7 @@ impl BuiltInFunction {
     }
 
     /// What it makes of the arguments.
-    pub fn call(self, alloc: Global, arguments: &Kwargs) -> TeraResult<Value>
+    pub fn call(self, alloc: Global, arguments: &Arguments<'_>) -> TeraResult<Value>
         ensures { Gives (λ v. v) result (function_of plain self arguments.now) }
     {
         match self {

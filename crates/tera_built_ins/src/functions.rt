@@ -8,13 +8,13 @@ ghost use Rattle.tera_built_ins.specs.Rooms.{HasRoom, EachIsBelow};
 use crate::arguments::{integer_or, needed_integer, needed_text};
 use crate::refusals::{long_range, no_range};
 use std::alloc::Global;
-use tera_values::{Error, Kwargs, TeraResult, Value};
+use tera_values::{Arguments, Error, TeraResult, Value};
 
 /// The most numbers that a range may have.
 const MOST: u128 = 100_000;
 
 /// The numbers from `start` on, each `step_by` behind the one before, before `end`. No more than a hundred thousand.
-pub fn range(alloc: Global, arguments: &Kwargs) -> TeraResult<Value>
+pub fn range(alloc: Global, arguments: &Arguments<'_>) -> TeraResult<Value>
     ensures { Gives (λ v. v) result (range_of arguments.now) }
 {
     let start = integer_or(arguments, "start", 0)?;
@@ -78,7 +78,7 @@ fn stepping(alloc: Global, start: i128, step: i128, count: u128) -> TeraResult<V
 }
 
 /// Refuses, with the message that it is given.
-pub fn throw(alloc: Global, arguments: &Kwargs) -> TeraResult<Value>
+pub fn throw(alloc: Global, arguments: &Arguments<'_>) -> TeraResult<Value>
     ensures { Gives (λ v. v) result (throw_of arguments.now) }
 {
     let words = needed_text(arguments, "message")?;

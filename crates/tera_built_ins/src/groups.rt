@@ -12,7 +12,7 @@ use crate::arguments::{as_array, needed_text};
 use crate::attributes::attribute_of;
 use crate::sorting::is_none;
 use std::alloc::Global;
-use tera_values::{Key, Kwargs, Map, TeraResult, Value};
+use tera_values::{Arguments, Key, Map, TeraResult, Value};
 
 /// An item, and the key that its attribute is.
 #[derive(Drop)]
@@ -30,7 +30,7 @@ pub(crate) struct Group {
 
 /// A map of the items of an array by an attribute of theirs: groups stand by first appearance, items in their order,
 /// and those whose attribute is none are left out. A `Message` where an item has no such attribute, or it is no key.
-pub fn group_by(alloc: Global, value: &Value, arguments: &Kwargs) -> TeraResult<Value>
+pub fn group_by(alloc: Global, value: &Value, arguments: &Arguments<'_>) -> TeraResult<Value>
     ensures { Gives (λ v. v) result (group_by_of plain value.now arguments.now) }
 {
     let items = as_array(alloc, value)?;

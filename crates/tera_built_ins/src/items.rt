@@ -5,7 +5,7 @@ ghost use Rattle.tera_built_ins.specs.Items.{or_none, first_of, last_of, nth_of}
 
 use crate::arguments::{as_array, needed_size};
 use std::alloc::Global;
-use tera_values::{Kwargs, TeraResult, Value};
+use tera_values::{Arguments, TeraResult, Value};
 
 fn or_none(found: Option<&Value>) -> TeraResult<Value>
     ensures { Gives (λ v. v) result (Ok (or_none (option_copied found.entry))) }
@@ -31,7 +31,7 @@ pub fn last(alloc: Global, value: &Value) -> TeraResult<Value>
 }
 
 /// The item at a position of an array, counted from 0, with its mark; none where the array is shorter.
-pub fn nth(alloc: Global, value: &Value, arguments: &Kwargs) -> TeraResult<Value>
+pub fn nth(alloc: Global, value: &Value, arguments: &Arguments<'_>) -> TeraResult<Value>
     ensures { Gives (λ v. v) result (nth_of value.now arguments.now) }
 {
     let items = as_array(alloc, value)?;

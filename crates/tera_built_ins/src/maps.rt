@@ -7,7 +7,7 @@ ghost use Rattle.tera_built_ins.specs.Maps.{each_of, pair_of, part_value, values
 use crate::arguments::{as_map, needed_text};
 use crate::refusals::no_entry;
 use std::alloc::Global;
-use tera_values::{Key, Kwargs, TeraResult, Value};
+use tera_values::{Arguments, Key, TeraResult, Value};
 
 /// What is taken of each entry of a map.
 #[derive(Clone, Copy)]
@@ -74,7 +74,7 @@ fn pair(alloc: Global, key: &Key, item: &Value) -> TeraResult<Value>
 }
 
 /// The value of a map at a text key; where none is there the default, and a `Message` where none is given.
-pub fn get(alloc: Global, value: &Value, arguments: &Kwargs) -> TeraResult<Value>
+pub fn get(alloc: Global, value: &Value, arguments: &Arguments<'_>) -> TeraResult<Value>
     ensures { Gives (λ v. v) result (get_of plain value.now arguments.now) }
 {
     let all = as_map(alloc, value)?;

@@ -6,7 +6,7 @@ ghost use Rattle.tera_built_ins.specs.Numbers.{abs_of, pluralize_of};
 use crate::arguments::text_or;
 use crate::refusals::unfit_kind;
 use std::alloc::Global;
-use tera_values::{Error, Kwargs, TeraResult, Value};
+use tera_values::{Arguments, Error, TeraResult, Value};
 
 /// The number without its sign; an error where there is no number, or where no `i128` holds that.
 pub fn abs(alloc: Global, value: &Value) -> TeraResult<Value>
@@ -20,7 +20,7 @@ pub fn abs(alloc: Global, value: &Value) -> TeraResult<Value>
 }
 
 /// `singular` for 1 and -1, and `plural` for all other numbers.
-pub fn pluralize(alloc: Global, value: &Value, arguments: &Kwargs) -> TeraResult<Value>
+pub fn pluralize(alloc: Global, value: &Value, arguments: &Arguments<'_>) -> TeraResult<Value>
     ensures { Gives (λ v. v) result (pluralize_of plain value.now arguments.now) }
 {
     let singular = text_or(arguments, "singular", "")?;

@@ -8,10 +8,10 @@ ghost use Rattle.tera_built_ins.specs.Parse as spec;
 use crate::arguments::natural_or;
 use crate::refusals::{no_base, no_integer, unfit_kind};
 use std::alloc::Global;
-use tera_values::{Kwargs, Shape, TeraResult, Value};
+use tera_values::{Arguments, Shape, TeraResult, Value};
 
 /// The integer itself, or the one that a text writes in `base`.
-pub fn int(alloc: Global, value: &Value, arguments: &Kwargs) -> TeraResult<Value>
+pub fn int(alloc: Global, value: &Value, arguments: &Arguments<'_>) -> TeraResult<Value>
     ensures { Gives (λ v. v) result (spec.int_of plain value.now arguments.now) }
 {
     let base = natural_or(arguments, "base", 10, u32::MAX as usize)?;

@@ -9,7 +9,7 @@ use crate::arguments::{as_text, needed_text};
 use crate::searching::{is_short, split_at_first};
 use memchr::memmem::Finder;
 use std::alloc::Global;
-use tera_values::{Kwargs, TeraResult, Value};
+use tera_values::{Arguments, TeraResult, Value};
 
 /// What stands between the positions of a pattern that is not empty.
 fn between(alloc: Global, content: &str, pattern: &str) -> TeraResult<Vec<Value>>
@@ -60,7 +60,7 @@ fn letters(alloc: Global, content: &str) -> TeraResult<Vec<Value>>
 
 /// The pieces between the positions of `pat`, from the left, none of them marked safe. The empty pattern stands before each
 /// character and at the end.
-pub fn split(alloc: Global, value: &Value, arguments: &Kwargs) -> TeraResult<Value>
+pub fn split(alloc: Global, value: &Value, arguments: &Arguments<'_>) -> TeraResult<Value>
     ensures { Gives (λ v. v) result (split_of plain value.now arguments.now) }
 {
     let given = as_text(alloc, value)?;

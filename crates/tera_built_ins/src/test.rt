@@ -6,7 +6,7 @@ ghost use Rattle.tera_built_ins.specs.TestTable.{test_named, test_of};
 
 use crate::tests;
 use std::alloc::Global;
-use tera_values::{Kwargs, Shape, TeraResult, Value};
+use tera_values::{Arguments, Shape, TeraResult, Value};
 
 /// A test that every engine has.
 #[derive(Clone, Copy)]
@@ -89,7 +89,7 @@ impl BuiltInTest {
     }
 
     /// What it says of the value. For a kind of values the arguments say nothing, and there are no numbers but integers.
-    pub fn call(self, alloc: Global, value: &Value, arguments: &Kwargs) -> TeraResult<bool>
+    pub fn call(self, alloc: Global, value: &Value, arguments: &Arguments<'_>) -> TeraResult<bool>
         ensures { Gives (λ b. b) result (test_of plain self value.now arguments.now) }
     {
         match self {

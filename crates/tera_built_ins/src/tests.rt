@@ -6,10 +6,10 @@ ghost use Rattle.tera_built_ins.specs.Tests.{is_iterable, defined_test, undefine
 
 use crate::arguments::{as_integer, as_text, needed_integer, needed_text, needed_value};
 use std::alloc::Global;
-use tera_values::{Kwargs, Shape, TeraResult, Value};
+use tera_values::{Arguments, Shape, TeraResult, Value};
 
 /// Whether a loop can go over it.
-pub fn iterable(value: &Value, _arguments: &Kwargs) -> TeraResult<bool>
+pub fn iterable(value: &Value, _arguments: &Arguments<'_>) -> TeraResult<bool>
     ensures { Gives (λ b. b) result (Ok (is_iterable value.now)) }
 {
     Ok(matches!(
@@ -19,21 +19,21 @@ pub fn iterable(value: &Value, _arguments: &Kwargs) -> TeraResult<bool>
 }
 
 /// Whether it is anything but undefined.
-pub fn defined(value: &Value, _arguments: &Kwargs) -> TeraResult<bool>
+pub fn defined(value: &Value, _arguments: &Arguments<'_>) -> TeraResult<bool>
     ensures { Gives (λ b. b) result (defined_test plain value.now _arguments.now) }
 {
     Ok(!value.is_undefined())
 }
 
 /// Whether it is undefined.
-pub fn undefined(value: &Value, _arguments: &Kwargs) -> TeraResult<bool>
+pub fn undefined(value: &Value, _arguments: &Arguments<'_>) -> TeraResult<bool>
     ensures { Gives (λ b. b) result (undefined_test plain value.now _arguments.now) }
 {
     Ok(value.is_undefined())
 }
 
 /// Whether 2 does not divide the integer.
-pub fn odd(alloc: Global, value: &Value, _arguments: &Kwargs) -> TeraResult<bool>
+pub fn odd(alloc: Global, value: &Value, _arguments: &Arguments<'_>) -> TeraResult<bool>
     ensures { Gives (λ b. b) result (odd_test plain value.now _arguments.now) }
 {
     let number = as_integer(alloc, value)?;
@@ -41,7 +41,7 @@ pub fn odd(alloc: Global, value: &Value, _arguments: &Kwargs) -> TeraResult<bool
 }
 
 /// Whether 2 divides the integer.
-pub fn even(alloc: Global, value: &Value, _arguments: &Kwargs) -> TeraResult<bool>
+pub fn even(alloc: Global, value: &Value, _arguments: &Arguments<'_>) -> TeraResult<bool>
     ensures { Gives (λ b. b) result (even_test plain value.now _arguments.now) }
 {
     let number = as_integer(alloc, value)?;
@@ -49,7 +49,7 @@ pub fn even(alloc: Global, value: &Value, _arguments: &Kwargs) -> TeraResult<boo
 }
 
 /// Whether `divisor` divides the integer. 0 divides none.
-pub fn divisible_by(alloc: Global, value: &Value, arguments: &Kwargs) -> TeraResult<bool>
+pub fn divisible_by(alloc: Global, value: &Value, arguments: &Arguments<'_>) -> TeraResult<bool>
     ensures { Gives (λ b. b) result (divisible_by_test plain value.now arguments.now) }
 {
     let divided = as_integer(alloc, value)?;
@@ -58,7 +58,7 @@ pub fn divisible_by(alloc: Global, value: &Value, arguments: &Kwargs) -> TeraRes
 }
 
 /// Whether the text begins with `pat`.
-pub fn starting_with(alloc: Global, value: &Value, arguments: &Kwargs) -> TeraResult<bool>
+pub fn starting_with(alloc: Global, value: &Value, arguments: &Arguments<'_>) -> TeraResult<bool>
     ensures { Gives (λ b. b) result (starting_with_test plain value.now arguments.now) }
 {
     let whole = as_text(alloc, value)?;
@@ -67,7 +67,7 @@ pub fn starting_with(alloc: Global, value: &Value, arguments: &Kwargs) -> TeraRe
 }
 
 /// Whether the text ends with `pat`.
-pub fn ending_with(alloc: Global, value: &Value, arguments: &Kwargs) -> TeraResult<bool>
+pub fn ending_with(alloc: Global, value: &Value, arguments: &Arguments<'_>) -> TeraResult<bool>
     ensures { Gives (λ b. b) result (ending_with_test plain value.now arguments.now) }
 {
     let whole = as_text(alloc, value)?;
@@ -76,7 +76,7 @@ pub fn ending_with(alloc: Global, value: &Value, arguments: &Kwargs) -> TeraResu
 }
 
 /// Whether `pat` is an item, a part of the text, or a key.
-pub fn containing(alloc: Global, value: &Value, arguments: &Kwargs) -> TeraResult<bool>
+pub fn containing(alloc: Global, value: &Value, arguments: &Arguments<'_>) -> TeraResult<bool>
     ensures { Gives (λ b. b) result (containing_test plain value.now arguments.now) }
 {
     let part = needed_value(arguments, "pat")?;

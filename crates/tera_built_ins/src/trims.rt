@@ -8,7 +8,7 @@ ghost use Rattle.tera_built_ins.specs.Trims as spec;
 use crate::arguments::{Given, as_text, optional_text};
 use crate::safe_parts::made;
 use std::alloc::Global;
-use tera_values::{Kwargs, TeraResult, Value};
+use tera_values::{Arguments, TeraResult, Value};
 
 fn off_start<'a>(text: &'a str, pattern: Option<Given<'_>>) -> &'a str
     ensures { result.now ≡ spec.off_start plain (option_map given_of pattern.entry) text.now }
@@ -29,7 +29,7 @@ fn off_end<'a>(text: &'a str, pattern: Option<Given<'_>>) -> &'a str
 }
 
 /// The text without white space, or without a pattern again and again, at its start.
-pub fn trim_start(alloc: Global, value: &Value, arguments: &Kwargs) -> TeraResult<Value>
+pub fn trim_start(alloc: Global, value: &Value, arguments: &Arguments<'_>) -> TeraResult<Value>
     ensures { Gives (λ v. v) result (spec.trim_start_of plain value.now arguments.now) }
 {
     let given = as_text(alloc, value)?;
@@ -38,7 +38,7 @@ pub fn trim_start(alloc: Global, value: &Value, arguments: &Kwargs) -> TeraResul
 }
 
 /// The same at its end.
-pub fn trim_end(alloc: Global, value: &Value, arguments: &Kwargs) -> TeraResult<Value>
+pub fn trim_end(alloc: Global, value: &Value, arguments: &Arguments<'_>) -> TeraResult<Value>
     ensures { Gives (λ v. v) result (spec.trim_end_of plain value.now arguments.now) }
 {
     let given = as_text(alloc, value)?;
@@ -47,7 +47,7 @@ pub fn trim_end(alloc: Global, value: &Value, arguments: &Kwargs) -> TeraResult<
 }
 
 /// The same at its start, and then at its end: a pattern that is left over between the two is not looked for again.
-pub fn trim(alloc: Global, value: &Value, arguments: &Kwargs) -> TeraResult<Value>
+pub fn trim(alloc: Global, value: &Value, arguments: &Arguments<'_>) -> TeraResult<Value>
     ensures { Gives (λ v. v) result (spec.trim_of plain value.now arguments.now) }
 {
     let given = as_text(alloc, value)?;

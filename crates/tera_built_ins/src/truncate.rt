@@ -6,7 +6,7 @@ ghost use Rattle.tera_built_ins.specs.Truncate.{truncated, truncate_of};
 
 use crate::arguments::{as_text, needed_size, text_or};
 use std::alloc::Global;
-use tera_values::{Kwargs, TeraResult, Value};
+use tera_values::{Arguments, TeraResult, Value};
 use unicode_segmentation::UnicodeSegmentation;
 
 /// The first clusters of a text that has more than so many, and then the end; else the text.
@@ -26,7 +26,7 @@ fn shorten(alloc: Global, content: &str, length: usize, end: &str) -> TeraResult
 
 /// A text of more than `length` extended clusters to the end of the last of these, and behind it `end`; else the text. It is
 /// never marked safe.
-pub fn truncate(alloc: Global, value: &Value, arguments: &Kwargs) -> TeraResult<Value>
+pub fn truncate(alloc: Global, value: &Value, arguments: &Arguments<'_>) -> TeraResult<Value>
     ensures { Gives (λ v. v) result (truncate_of plain value.now arguments.now) }
 {
     let given = as_text(alloc, value)?;

@@ -1,5 +1,5 @@
 // Filters and tests that are built in, applied where their operand lies.
-ghost use Rattle.std.specs.Prelude.{◌≡◌, [], List, None, Some};
+ghost use Rattle.std.specs.Prelude.{◌≡◌, ◌∷◌, [], List, None, Some};
 ghost use Rattle.tera_errors.specs.Prelude.{Gives};
 ghost use Rattle.tera_errors.specs.Site.{Name};
 ghost use Rattle.tera_values.specs.Prelude.{at_name, plain};
@@ -19,7 +19,7 @@ use tera_built_ins::{BuiltInFilter, BuiltInTest};
 use tera_code::{CallKind, LentName, Names};
 use tera_objects::Objects;
 use tera_operators::{Operand, arguments, operand_or_call_fault};
-use tera_values::{Kwargs, Name, Span, TeraResult, Value};
+use tera_values::{Arguments, Name, Span, TeraResult, Value};
 
 impl<'c> Configuration<'c> {
     /// Applies the filter of this name to the operand below its arguments. It is the one that is built in, unless the caller
@@ -45,7 +45,8 @@ impl<'c> Configuration<'c> {
         }
         match names.as_slice() {
             [] => self.filter_top(machine, file, filter, name, span),
-            names => self.filter_with(machine, file, filter, name, names, span),
+            [argument] => self.filter_with(machine, file, filter, name, argument, span),
+            names => self.filter_with_many(machine, file, filter, name, names, span),
         }
     }
 
@@ -71,8 +72,33 @@ impl<'c> Configuration<'c> {
         Ok(Flow::On)
     }
 
+    // With one argument, which is lent: the operand below it is changed where it lies.
     #[inline(always)]
     fn filter_with<'f, O: Objects>(
+        &mut self,
+        machine: &VirtualMachine<'_, O>,
+        file: &str,
+        filter: BuiltInFilter,
+        name: &LentName<'_>,
+        argument: &Name,
+        span: Span,
+    ) -> Going<'f>
+        requires named { filter_named name.now ≡ Some filter }
+        requires lone { at_name name.now (O.engine machine.now.objects.now).filters ≡ None }
+        requires ready { IsReady (filter_called (here_of O.engine machine.now file.now self.old)
+            name.now (argument.now ∷ []) span) self.old }
+        ensures { Does (filter_called (here_of O.engine machine.now file.now self.old)
+            name.now (argument.now ∷ []) span) self.old result self.new }
+    {
+        let given = (argument.share()?, self.operands.take().into_value());
+        let given = Arguments::one(machine.alloc, &given);
+        let target = self.operands.top_mut();
+        *target = filtered(machine, file, filter, name, &given, target, span)?;
+        Ok(Flow::On)
+    }
+
+    #[inline(always)]
+    fn filter_with_many<'f, O: Objects>(
         &mut self,
         machine: &VirtualMachine<'_, O>,
         file: &str,
@@ -91,7 +117,7 @@ impl<'c> Configuration<'c> {
         let operands = self.take_topmost(names.len())?;
         let given = arguments(machine.alloc, names, operands)?;
         let target = self.operands.take();
-        let operand = filtered(machine, file, filter, name, &given, &target, span)?;
+        let operand = filtered(machine, file, filter, name, &given.lent(), &target, span)?;
         self.put(operand)
     }
 
@@ -117,6 +143,7 @@ impl<'c> Configuration<'c> {
         }
         match names.as_slice() {
             [] => self.test_top(machine, file, test, name, span),
+            [argument] => self.test_with(machine, file, test, name, argument, span),
             _ => self.call(machine, file, CallKind::Test, name, names, span),
         }
     }
@@ -139,7 +166,32 @@ impl<'c> Configuration<'c> {
             name.now [] span) self.old result self.new }
     {
         let target = self.operands.top_mut();
-        *target = tested(machine, file, test, name, target, span)?;
+        *target = tested_alone(machine, file, test, name, target, span)?;
+        Ok(Flow::On)
+    }
+
+    // With one argument, which is lent.
+    #[inline(always)]
+    fn test_with<'f, O: Objects>(
+        &mut self,
+        machine: &VirtualMachine<'_, O>,
+        file: &str,
+        test: BuiltInTest,
+        name: &LentName<'_>,
+        argument: &Name,
+        span: Span,
+    ) -> Going<'f>
+        requires named { test_named name.now ≡ Some test }
+        requires lone { at_name name.now (O.engine machine.now.objects.now).tests ≡ None }
+        requires ready { IsReady (test_called (here_of O.engine machine.now file.now self.old)
+            name.now (argument.now ∷ []) span) self.old }
+        ensures { Does (test_called (here_of O.engine machine.now file.now self.old)
+            name.now (argument.now ∷ []) span) self.old result self.new }
+    {
+        let given = (argument.share()?, self.operands.take().into_value());
+        let given = Arguments::one(machine.alloc, &given);
+        let target = self.operands.top_mut();
+        *target = tested(machine, file, test, name, &given, target, span)?;
         Ok(Flow::On)
     }
 }
@@ -151,7 +203,7 @@ fn filtered<O: Objects>(
     file: &str,
     filter: BuiltInFilter,
     name: &LentName<'_>,
-    given: &Kwargs,
+    given: &Arguments<'_>,
     target: &Operand,
     span: Span,
 ) -> TeraResult<Operand>
@@ -194,13 +246,42 @@ fn filtered_alone<O: Objects>(
         (O.engine machine.now.objects.now) around vars machine.now.autoescape) name.now)
         target.now [] span) }
 {
-    let none = Kwargs::new(machine.alloc);
+    let none = Arguments::none(machine.alloc);
     filtered(machine, file, filter, name, &none, target, span)
 }
 
 // Whether the target passes a test that is built in, as an operand.
 #[inline(always)]
 fn tested<O: Objects>(
+    machine: &VirtualMachine<'_, O>,
+    file: &str,
+    test: BuiltInTest,
+    name: &LentName<'_>,
+    given: &Arguments<'_>,
+    target: &Operand,
+    span: Span,
+) -> TeraResult<Operand>
+    requires named { test_named name.now ≡ Some test }
+    requires lone { at_name name.now (O.engine machine.now.objects.now).tests ≡ None }
+    ensures { (around : Around) (vars : Variables) (all : List (Name × Evaluated)) →
+        given.now ≡ by_name all → Gives (λ o. o) result (test_applied_by file.now
+        (tested_by plain (O.engine machine.now.objects.now) (seen_in plain
+        (O.engine machine.now.objects.now) around vars machine.now.autoescape) name.now)
+        target.now all span) }
+{
+    let alloc = machine.alloc;
+    match test.call(alloc, target.value(), given) {
+        Ok(flag) => Ok(Operand::new(Value::from_bool(flag), span)),
+        Err(error) => {
+            let answer = no_truth(error.of_callee(alloc, "test", name.as_name().as_str()));
+            operand_or_call_fault(alloc, file, answer, target.span(), span)
+        }
+    }
+}
+
+// The same without arguments.
+#[inline(always)]
+fn tested_alone<O: Objects>(
     machine: &VirtualMachine<'_, O>,
     file: &str,
     test: BuiltInTest,
@@ -216,12 +297,6 @@ fn tested<O: Objects>(
         (O.engine machine.now.objects.now) around vars machine.now.autoescape) name.now)
         target.now [] span) }
 {
-    let alloc = machine.alloc;
-    match test.call(alloc, target.value(), &Kwargs::new(alloc)) {
-        Ok(flag) => Ok(Operand::new(Value::from_bool(flag), span)),
-        Err(error) => {
-            let answer = no_truth(error.of_callee(alloc, "test", name.as_name().as_str()));
-            operand_or_call_fault(alloc, file, answer, target.span(), span)
-        }
-    }
+    let none = Arguments::none(machine.alloc);
+    tested(machine, file, test, name, &none, target, span)
 }

@@ -12,7 +12,7 @@ use std::alloc::{AllocError, Global};
 use tera_built_ins::{BuiltInFilter, EscapeFn, Escaping};
 use tera_errors::lacking;
 use tera_state::{StateOver, write_value};
-use tera_values::{Kwargs, TeraResult, Value};
+use tera_values::{Arguments, TeraResult, Value};
 
 /// The state that an object of these sees at a call: the scopes, the escape, and the built-in filters but those whose names are
 /// taken.
@@ -92,7 +92,7 @@ pub(crate) fn apply_by(
     autoescape: bool,
     filter: BuiltInFilter,
     value: &Value,
-    arguments: &Kwargs,
+    arguments: &Arguments<'_>,
 ) -> TeraResult<Value>
     ensures { Gives (λ v. v) result (filter_of plain (record {
       autoescape = autoescape;

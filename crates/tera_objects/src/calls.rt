@@ -7,7 +7,7 @@ use crate::over::CallerObjects;
 use std::alloc::{AllocError, Global};
 use tera_built_ins::BuiltInFilter;
 use tera_errors::Guess;
-use tera_values::{Error, Kwargs, Shape, TeraResult, Value};
+use tera_values::{Arguments, Error, Shape, TeraResult, Value};
 
 impl Objects for CallerObjects {
     ghost use Rattle.tera_objects.specs.Kept.{engine_of};
@@ -67,7 +67,7 @@ impl Objects for CallerObjects {
         autoescape: bool,
         filter: BuiltInFilter,
         value: &Value,
-        arguments: &Kwargs,
+        arguments: &Arguments<'_>,
     ) -> TeraResult<Value> {
         apply_by(&self.escape, alloc, autoescape, filter, value, arguments)
     }

@@ -12,7 +12,7 @@ use crate::call::Call;
 use std::alloc::{AllocError, Global};
 use tera_built_ins::BuiltInFilter;
 use tera_errors::Guess;
-use tera_values::{Kwargs, TeraResult, Value};
+use tera_values::{Arguments, TeraResult, Value};
 
 /// The escape of an engine, and its filters, tests and functions: what is built in, and the caller's own. What renders takes
 /// these by a type parameter, since no functions that call each other may name a trait object.
@@ -60,7 +60,7 @@ pub trait Objects: Drop {
         autoescape: bool,
         filter: BuiltInFilter,
         value: &Value,
-        arguments: &Kwargs,
+        arguments: &Arguments<'_>,
     ) -> TeraResult<Value>
         ensures { Gives (λ v. v) result (filter_of plain (escaping_by (engine self.now) autoescape)
             filter value.now arguments.now) };

@@ -150,7 +150,7 @@ impl<'a, 'c, E: EscapeFn> StateOver<'a, 'c, E> {
             (filter_in plain (escaping_in view) (view.filters name.now) value.now kwargs) }
     {
         match self.filter(name) {
-            Some(filter) => match filter.call(self.alloc, value, &kwargs, self.escaping()) {
+            Some(filter) => match filter.call(self.alloc, value, &kwargs.lent(), self.escaping()) {
                 Ok(answer) => Ok(answer),
                 Err(error) => Err(error.of_callee(self.alloc, "filter", name)),
             },

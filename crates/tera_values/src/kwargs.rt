@@ -1,22 +1,18 @@
 // Arguments by name.
 ghost use Rattle.std.specs.Prelude.{◌≡◌, [], Ok, Some, IfErr, IfSome, IsErr, OnOk, OnErr, option_copied, option_map};
 ghost use Rattle.tera_errors.specs.Prelude.{Gives, Lacks, MemorySuffices, missing_argument};
-ghost use Rattle.tera_values.specs.Named.{at_name, name_cmp, position, put, put_all, IsAscending};
+ghost use Rattle.tera_values.specs.Named.{at_name, put, put_all};
 ghost use Rattle.tera_values.specs.Arguments.{read, read_needed};
 
 use crate::argument::ArgFromValue;
+use crate::arguments::{Arguments, position};
 use crate::context::Context;
 use crate::name::{Name, Sought};
-use crate::refusals::of_argument;
-use std::alloc::{AllocError, Global};
-use std::cmp::Ordering;
+use std::alloc::Global;
 use std::collections::BTreeMap;
 use std::marker::Model;
-use tera_errors::{Error, Guess, TeraResult};
+use tera_errors::{Error, TeraResult};
 use tera_values_data::Value;
-
-/// Up to so many arguments are looked at one after the other.
-const FEW: usize = 8;
 
 /// Arguments by name. Those that nothing asks for are ignored. They stand in byte order of their names, since a call has
 /// few and gives them in that order: each goes to the end, and none is hashed.
@@ -95,28 +91,25 @@ impl Kwargs {
         Ok(())
     }
 
+    /// The same arguments, lent.
+    pub fn lent(&self) -> Arguments<'_>
+        ensures { result ≡ self.now }
+    {
+        Arguments::of_entries(self.alloc(), self.entries.as_slice())
+    }
+
     /// The argument as it lies. Takes no memory.
     pub fn value(&self, name: &str) -> Option<&Value>
         ensures { option_copied result ≡ at_name name.now self.now }
     {
-        if self.entries.len() <= FEW {
-            return value_among(self.entries.as_slice(), name);
-        }
-        match position(self.entries.as_slice(), name) {
-            Ok(at) => Some(&self.entries[at].1),
-            Err(_) => None,
-        }
+        self.lent().value(name)
     }
 
     /// The same by a name whose hash is known. Takes no memory.
     pub fn look(&self, name: &Sought<'_>) -> Option<&Value>
         ensures { option_copied result ≡ at_name name.now self.now }
     {
-        if self.entries.len() <= FEW {
-            among(self.entries.as_slice(), name)
-        } else {
-            self.value(name.as_str())
-        }
+        self.lent().look(name)
     }
 
     /// Puts all into the names of a context.
@@ -147,13 +140,7 @@ impl Kwargs {
             MemorySuffices result }
         ensures ready { IfSome (at_name name.now self.now) T.is_ready → MemorySuffices result }
     {
-        match self.value(name) {
-            Some(value) => match T::from_value(self.alloc(), value) {
-                Ok(argument) => Ok(Some(argument)),
-                Err(error) => Err(of_argument(self.alloc(), error, name, value)),
-            },
-            None => Ok(None),
-        }
+        self.lent().get(name)
     }
 
     /// The argument; `MissingArgument` where it is absent, `InvalidArgument` where it is of a wrong type.
@@ -164,75 +151,13 @@ impl Kwargs {
             MemorySuffices result }
         ensures ready { IfSome (at_name name.now self.now) T.is_ready → MemorySuffices result }
     {
-        match self.value(name) {
-            Some(value) => match T::from_value(self.alloc(), value) {
-                Ok(argument) => Ok(argument),
-                Err(error) => Err(of_argument(self.alloc(), error, name, value)),
-            },
-            None => Err(self.missing(name)),
-        }
+        self.lent().must_get(name)
     }
 
     /// The fault of a call that needs the argument, which is absent. It tells of a name that is given and near to it.
-    #[inline(never)]
     pub fn missing(&self, name: &str) -> Error
         ensures { result ≡ Some missing_argument }
     {
-        match self.missing_in_words(name) {
-            Ok(words) => Error::missing_argument().telling(self.alloc(), words.as_str()),
-            Err(_) => Error::missing_argument(),
-        }
+        self.lent().missing(name)
     }
-
-    fn missing_in_words(&self, name: &str) -> Result<String, AllocError> {
-        let alloc = self.alloc();
-        let mut guess = Guess::new(alloc, name);
-        for (given, _) in self.entries.iter() {
-            guess.add(given.as_str())?;
-        }
-        match guess.name() {
-            Some(given) => format!(in alloc;
-                "the call needs the argument `{name}`, and `{given}` is given"
-            ),
-            None => format!(in alloc; "the call needs the argument `{name}`"),
-        }
-    }
-}
-
-// Where the name stands, or where it goes.
-fn position(entries: &[(Name, Value)], name: &str) -> Result<usize, usize>
-    requires { IsAscending entries.now }
-    ensures { result ≡ position name.now entries.now }
-{
-    entries.binary_search_by(|entry| compared(entry, name))
-}
-
-// The value at the name, looked for from the first entry on.
-fn among<'a>(entries: &'a [(Name, Value)], name: &Sought<'_>) -> Option<&'a Value>
-    ensures { option_copied result ≡ at_name name.now entries.now }
-{
-    for entry in entries {
-        if name.is(&entry.0) {
-            return Some(&entry.1);
-        }
-    }
-    None
-}
-
-// The same by a name whose hash is not known.
-fn value_among<'a>(entries: &'a [(Name, Value)], name: &str) -> Option<&'a Value>
-    ensures { option_copied result ≡ at_name name.now entries.now }
-{
-    for entry in entries {
-        if name == entry.0.as_str() {
-            return Some(&entry.1);
-        }
-    }
-    None
-}
-
-fn compared(entry: &(Name, Value), name: &str) -> Ordering
-    ensures { result ≡ name_cmp entry.now.0 name.now }
-{
-    entry.0.as_str().cmp(name)
 }

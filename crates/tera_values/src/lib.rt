@@ -2,6 +2,7 @@
 #![tactic(auto)]
 
 pub mod argument;
+pub mod arguments;
 pub mod context;
 pub mod counter;
 pub mod kwargs;
@@ -12,6 +13,7 @@ pub mod refusals;
 pub mod string_input;
 
 pub use argument::ArgFromValue;
+pub use arguments::Arguments;
 pub use context::Context;
 pub use counter::Counter;
 pub use kwargs::Kwargs;

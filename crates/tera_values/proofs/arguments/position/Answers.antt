@@ -2,7 +2,7 @@ use Rattle.std.proofs.Common.{rules}
 use Rattle.std.proofs.lemmas.Fn.{always_returns_same}
 use Rattle.tera_values.specs.Named.{name_cmp}
 use Rattle.tera_values.proofs.Positions.{searched}
-use Rattle.tera_values.proofs.kwargs.position.Goals as goal
+use Rattle.tera_values.proofs.arguments.position.Goals as goal
 
 pub returns : goal.returns
 returns c =

@@ -101,7 +101,8 @@ impl BindingMap {
     /// Puts the binding in place of an older one of its name, which takes no memory, or behind all.
     #[inline(never)]
     pub fn put(&mut self, binding: Binding) -> Result<(), AllocError>
-        ensures ok { OnOk result (self.new ≡ with_binding self.old binding.frame binding.layer binding.name binding.value) }
+        ensures ok { OnOk result (self.new
+            ≡ with_binding self.old binding.frame binding.layer binding.name binding.value) }
         ensures err { OnErr result (self.new ≡ self.old) }
     {
         let Binding {

@@ -125,7 +125,8 @@ impl Bindings {
         name: Name,
         value: Value,
     ) -> Result<(), AllocError>
-        ensures ok { OnOk result (AreAlike self.new (with_binding self.old frame layer name value)) }
+        ensures ok { OnOk result
+            (AreAlike self.new (with_binding self.old frame layer name value)) }
         ensures err { OnErr result (self.new ≡ self.old) }
     {
         self.end = end_with(frame, layer, self.end);
@@ -195,7 +196,8 @@ fn put_behind(
     others: &mut BindingMaps,
     binding: Binding,
 ) -> Result<(), AllocError>
-    ensures ok { OnOk result (position_from 0 few.old.items binding.frame binding.layer binding.name ≡ None
+    ensures ok { OnOk result
+        (position_from 0 few.old.items binding.frame binding.layer binding.name ≡ None
         → AreAlike (few.new.items ++ others.new) (with_binding (few.old.items ++ others.old)
         binding.frame binding.layer binding.name binding.value)) }
     ensures err { OnErr result (few.new.items ++ others.new ≡ few.old.items ++ others.old) }

@@ -1,0 +1,116 @@
+// Words for people: why data is refused, and where.
+ghost use Rattle.std.specs.Prelude.{◌≡◌};
+ghost use Rattle.tera_errors.specs.Prelude.{message, Tells};
+
+use crate::fault::{Fault, fault_of};
+use std::alloc::{AllocError, Global};
+use tera_errors::{Error, Place, place_of};
+
+/// How long a number's text may be that is quoted.
+const LONGEST_QUOTED: usize = 60;
+
+/// What the words of a refused number begin with, behind its path.
+const BEHIND_PATH: &str = "`";
+
+/// A number that is no integer of 128 bits. Its path goes in front, from its last step to its first.
+pub(crate) fn refused_number(alloc: Global, text: &str) -> Error
+    ensures { Tells result message }
+{
+    let quoted = if text.len() <= LONGEST_QUOTED {
+        text
+    } else {
+        "a long number"
+    };
+    let words = format!(in alloc; "{BEHIND_PATH} is {quoted}, which is no integer of 128 bits");
+    Error::message_from(words)
+}
+
+/// The same error, of what stands in an item at this position.
+pub(crate) fn at_item(alloc: Global, error: Error, position: usize) -> Error
+    ensures { result ≡ error }
+{
+    let words = match error.words() {
+        Some(words) => format!(in alloc; "[{position}]{words}"),
+        None => Err(AllocError),
+    };
+    retold(alloc, error, words)
+}
+
+/// The same error, of what stands in the member of this name.
+pub(crate) fn at_member(alloc: Global, error: Error, name: &str) -> Error
+    ensures { result ≡ error }
+{
+    let words = match error.words() {
+        Some(words) => format!(in alloc; ".{name}{words}"),
+        None => Err(AllocError),
+    };
+    retold(alloc, error, words)
+}
+
+/// The same error, whose path is whole.
+pub(crate) fn with_path(alloc: Global, error: Error) -> Error
+    ensures { result ≡ error }
+{
+    let words = match error.words() {
+        Some(words) => whole(alloc, words),
+        None => Err(AllocError),
+    };
+    retold(alloc, error, words)
+}
+
+fn whole(alloc: Global, words: &str) -> Result<String, AllocError> {
+    if let Some(rest) = words.strip_prefix(BEHIND_PATH) {
+        return format!(in alloc; "the data{rest}");
+    }
+    if let Some(rest) = words.strip_prefix('.') {
+        return format!(in alloc; "`{rest}");
+    }
+    if words.starts_with('[') {
+        return format!(in alloc; "`{words}");
+    }
+    String::from_str(alloc, words)
+}
+
+// The same error in these words, if they found room.
+fn retold(alloc: Global, error: Error, words: Result<String, AllocError>) -> Error
+    ensures { result ≡ error }
+{
+    match words {
+        Ok(words) => error.telling(alloc, words.as_str()),
+        Err(_) => error,
+    }
+}
+
+/// The text is the JSON of something else than an object.
+pub(crate) fn no_object(alloc: Global) -> Error
+    ensures { Tells result message }
+{
+    Error::message(alloc, "the data is no object, so it has no names")
+}
+
+/// The bytes are no text behind the first so many.
+pub(crate) fn no_text(alloc: Global, bytes: &[u8], valid: usize) -> Error
+    ensures { Tells result message }
+{
+    let line = lines_in(&bytes[..valid.min(bytes.len())]);
+    Error::message_from(format!(in alloc; "line {line}: this is no text in UTF-8"))
+}
+
+fn lines_in(bytes: &[u8]) -> usize {
+    let mut line: usize = 1;
+    for byte in bytes {
+        if *byte == b'\n' {
+            line = line.saturating_add(1);
+        }
+    }
+    line
+}
+
+/// The text is no JSON.
+pub(crate) fn unreadable(alloc: Global, text: &str) -> Error
+    ensures { Tells result message }
+{
+    let Fault { at, wanted } = fault_of(alloc, text);
+    let Place { line, column } = place_of(text, at);
+    Error::message_from(format!(in alloc; "line {line}, column {column}: {wanted}"))
+}

@@ -1,0 +1,60 @@
+// Contexts from data, one over another.
+use crate::shown::is_value;
+use std::alloc::Global;
+use tera_data::{Floats, json_context, put_json};
+use tera_values::{Context, TeraResult};
+
+fn shows(alloc: Global, context: &Context, want: &str) -> bool {
+    match context.to_value() {
+        Ok(value) => is_value(alloc, &value, want),
+        Err(_) => false,
+    }
+}
+
+/// The context of the first text, with the second put over it, or as it was where the second is refused.
+fn put_over(alloc: Global, first: &str, second: &str) -> TeraResult<Context> {
+    let mut context = json_context(alloc, first, Floats::Refuse)?;
+    match put_json(&mut context, second, Floats::Refuse) {
+        Ok(()) => {}
+        Err(error) => drop(error),
+    }
+    Ok(context)
+}
+
+fn becomes(alloc: Global, first: &str, second: &str, want: &str) -> bool {
+    match put_over(alloc, first, second) {
+        Ok(context) => shows(alloc, &context, want),
+        Err(_) => false,
+    }
+}
+
+#[test]
+fn texts_are_contexts(rt: HostRuntime) {
+    for (first, second, want) in [
+        ("{}", "{}", "map {}"),
+        ("{\"b\":1,\"a\":[2]}", "{}", "map {\"a\": [2], \"b\": 1}"),
+        (
+            "{\"a\":1,\"b\":2}",
+            "{\"b\":3,\"c\":4}",
+            "map {\"a\": 1, \"b\": 3, \"c\": 4}",
+        ),
+        (
+            "{\"a\":{\"x\":1}}",
+            "{\"a\":{\"y\":2}}",
+            "map {\"a\": {\"y\": 2}}",
+        ),
+        (
+            "{\"a\":1,\"a\":2}",
+            "{\"b\":3,\"b\":4}",
+            "map {\"a\": 2, \"b\": 4}",
+        ),
+        ("{\"a\":1}", "{\"a\":2,\"b\":1.5}", "map {\"a\": 1}"),
+        ("{\"a\":1}", "{\"a\":2", "map {\"a\": 1}"),
+        ("{\"a\":1}", "[2]", "map {\"a\": 1}"),
+    ] {
+        assert!(rt;
+            becomes(rt.alloc(), first, second, want),
+            "{first} {second}"
+        );
+    }
+}

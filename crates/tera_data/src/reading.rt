@@ -77,6 +77,6 @@ fn object_of(alloc: Global, json: &Json<'_>, floats: Floats) -> TeraResult<Conte
 {
     match json {
         Json::Object(members) => context_of(alloc, members, floats),
-        _ => Err(no_object(alloc)),
+        _ => Err(no_object(alloc, json)),
     }
 }

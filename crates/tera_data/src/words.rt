@@ -3,6 +3,7 @@ ghost use Rattle.std.specs.Prelude.{◌≡◌};
 ghost use Rattle.tera_errors.specs.Prelude.{message, Tells};
 
 use crate::fault::{Fault, fault_of};
+use json::Value as Json;
 use std::alloc::{AllocError, Global};
 use tera_errors::{Error, Place, place_of};
 
@@ -82,10 +83,24 @@ fn retold(alloc: Global, error: Error, words: Result<String, AllocError>) -> Err
 }
 
 /// The text is the JSON of something else than an object.
-pub(crate) fn no_object(alloc: Global) -> Error
+pub(crate) fn no_object(alloc: Global, json: &Json<'_>) -> Error
     ensures { Tells result message }
 {
-    Error::message(alloc, "the data is no object, so it has no names")
+    let kind = kind_of(json);
+    Error::message_from(format!(in alloc;
+        "the data is {kind}, and an object is expected, whose members are the names"
+    ))
+}
+
+fn kind_of(json: &Json<'_>) -> &'static str {
+    match json {
+        Json::Null => "null",
+        Json::Bool(_) => "a boolean",
+        Json::Number(_) => "a number",
+        Json::String(_) => "a string",
+        Json::Array(_) => "an array",
+        Json::Object(_) => "an object",
+    }
 }
 
 /// The bytes are no text behind the first so many.

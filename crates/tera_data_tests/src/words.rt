@@ -79,7 +79,14 @@ fn is_deep(alloc: Global) -> bool {
 #[test]
 fn refusals_of_contexts_say_where(rt: HostRuntime) {
     for (text, words) in [
-        ("[]", "the data is no object, so it has no names"),
+        (
+            "[]",
+            "the data is an array, and an object is expected, whose members are the names",
+        ),
+        (
+            "null",
+            "the data is null, and an object is expected, whose members are the names",
+        ),
         (
             "{\"a\":{\"b c\":[-1.5]}}",
             "`a.b c[0]` is -1.5, which is no integer of 128 bits",

@@ -20,7 +20,7 @@ fn user(alloc: Global, name: &str, age: i128) -> TeraResult<Value> {
         Key::Text(String::from_str(alloc, "age")?),
         Value::from_int(age),
     )?;
-    Value::map(map).shared(alloc)
+    Value::map(map).into_shared(alloc)
 }
 
 fn context(alloc: Global) -> TeraResult<Context> {
@@ -28,7 +28,7 @@ fn context(alloc: Global) -> TeraResult<Context> {
     users.push(user(alloc, "Ada", 36)?)?;
     users.push(user(alloc, "Tom & Jo", 7)?)?;
     let mut context = Context::new(alloc);
-    context.insert("users", Value::array(users).shared(alloc)?)?;
+    context.insert("users", Value::array(users).into_shared(alloc)?)?;
     Ok(context)
 }
 

@@ -116,7 +116,7 @@ pub fn with_room<T, F: FnOnce() -> T>(alloc: Global, room: usize, call: F) -> Op
 
 /// How many bytes are left, each piece with the 16 that the C library keeps beside it. The pieces lie in this list for
 /// that time, and it needs a position for each.
-pub fn left(alloc: Global, pieces: &mut Vec<Vec<u8>>) -> usize {
+pub fn bytes_left(alloc: Global, pieces: &mut Vec<Vec<u8>>) -> usize {
     take_all(alloc, pieces);
     let mut sum: usize = 0;
     for piece in pieces.iter() {

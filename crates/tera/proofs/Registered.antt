@@ -8,7 +8,7 @@ use Rattle.tera_values.specs.Named.{Named}
 use Rattle.tera_objects.specs.Engine.{Engine, standard_engine}
 use Rattle.tera_objects.specs.Kept.{Meanings, engine_of}
 use Rattle.tera_objects.specs.Moving.{with_those_of, MovedInPart}
-use Rattle.tera_objects.specs.declared.over.ObjectsOver.{ObjectsOver}
+use Rattle.tera_objects.specs.declared.caller_objects.ObjectsOver.{ObjectsOver}
 use Rattle.tera_meaning.specs.Registry.{Template, Registry, new_registry, standard_suffixes}
 use Rattle.tera.specs.declared.engine.TeraOver.{TeraOver}
 use Rattle.tera.specs.Configuring.{Configures}

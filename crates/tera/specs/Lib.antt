@@ -80,7 +80,7 @@ pub use Rattle.tera_state.specs.Lending as LoopLending
 pub use Rattle.tera_state.specs.Opened
 pub use Rattle.tera_state.specs.Scope
 pub use Rattle.tera_state.specs.Scopes
-pub use Rattle.tera_state.specs.Found
+pub use Rattle.tera_state.specs.FoundValue
 pub use Rattle.tera_state.specs.Rendered
 pub use Rattle.tera_state.specs.View
 pub use Rattle.tera_objects.specs.Engine
@@ -122,7 +122,7 @@ pub use Rattle.tera_code.specs.Packed
 pub use Rattle.tera_code.specs.Listing
 pub use Rattle.tera_code.specs.Code
 pub use Rattle.tera_code.specs.Blocks as CodeBlocks
-pub use Rattle.tera_code.specs.Asked
+pub use Rattle.tera_code.specs.InstructionParts
 pub use Rattle.tera_code.specs.Printing as CodePrinting
 pub use Rattle.tera_code.specs.Called as CodeCalled
 pub use Rattle.tera_code.specs.Targets
@@ -133,7 +133,7 @@ pub use Rattle.tera_registry.specs.Kept as RegistryKept
 pub use Rattle.tera_registry.specs.Components as RegistryComponents
 pub use Rattle.tera_registry.specs.Places
 pub use Rattle.tera_registry.specs.Choices
-pub use Rattle.tera_registry.specs.Needs
+pub use Rattle.tera_registry.specs.OutsideCalls
 pub use Rattle.tera_registry.specs.Links
 pub use Rattle.tera_registry.specs.Takes
 pub use Rattle.tera_registry.specs.Bodies
@@ -144,6 +144,6 @@ pub use Rattle.tera_machine.specs.Layers
 pub use Rattle.tera_machine.specs.Config
 pub use Rattle.tera_machine.specs.OpenThings
 pub use Rattle.tera_machine.specs.Subject
-pub use Rattle.tera_machine.specs.Wanted
+pub use Rattle.tera_machine.specs.WantedBlock
 pub use Rattle.tera_machine.specs.Bodies as MachineBodies
 pub mod Prelude

@@ -97,7 +97,7 @@ impl<O: Objects> TeraOver<O> {
             (limit < 8 * template_visits (registry_of O.engine self.now)
             template.entry.name.now context.now) }
     {
-        let mut steps: Steps<Budget<L>> = Steps::within(limit);
+        let mut steps: Steps<Budget<L>> = Steps::with_limit(limit);
         let answer = self.render_template(template.name, context, &mut steps);
         unless_spent(answer, &steps)
     }
@@ -115,7 +115,7 @@ impl<O: Objects> TeraOver<O> {
             (TextTakesMore (registry_of O.engine self.now) source.entry.text.now context.now
             autoescape limit) }
     {
-        let mut steps: Steps<Budget<L>> = Steps::within(limit);
+        let mut steps: Steps<Budget<L>> = Steps::with_limit(limit);
         let answer = self.render_text(source.text, context, autoescape, &mut steps);
         unless_spent(answer, &steps)
     }
@@ -135,7 +135,7 @@ impl<O: Objects> TeraOver<O> {
             (limit < 8 * component_visits (registry_of O.engine self.now) call.entry.name.now
             args.now implicits.now (lent_text call.entry.body) autoescape) }
     {
-        let mut steps: Steps<Budget<L>> = Steps::within(limit);
+        let mut steps: Steps<Budget<L>> = Steps::with_limit(limit);
         let answer = self.render_by_call(
             call.name, args, implicits, call.body, autoescape, &mut steps,
         );

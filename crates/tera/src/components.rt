@@ -140,7 +140,7 @@ impl<O: Objects> TeraOver<O> {
             found.entry.definition.now.name args.now implicits.now (lent_text body.entry)
             autoescape }
     {
-        let body = handed(self.alloc, body)?;
+        let body = safe_body(self.alloc, body)?;
         let mut scopes = Scopes::new(self.alloc, implicits, Some(&self.global_context));
         let definition = found.definition;
         let context = match definition.bind_by_name(self.alloc, args, &scopes, body) {
@@ -175,7 +175,7 @@ impl<O: Objects> TeraOver<O> {
 }
 
 // The body that a component is handed, as a safe text.
-fn handed(alloc: Global, body: Option<&str>) -> TeraResult<Option<Value>>
+fn safe_body(alloc: Global, body: Option<&str>) -> TeraResult<Option<Value>>
     ensures { Gives (λ b. b) result
         (Ok (option_map (λ t. text t true) (lent_text body.entry))) }
 {

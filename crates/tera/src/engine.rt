@@ -10,7 +10,7 @@ ghost use Rattle.tera.specs.Rendering.{OneOff, AppendsOneOf};
 ghost use Rattle.tera.specs.Configuring.{Configures, with_delimiters, with_prefixes, with_suffixes};
 ghost use Rattle.tera.specs.Lent.{texts_of};
 
-use crate::texts::{copied, standard_suffixes};
+use crate::texts::{copies_of, standard_suffixes};
 use std::alloc::Global;
 use tera_code::{Steps, Tally};
 use tera_objects::{CallerObjects, Objects};
@@ -120,7 +120,7 @@ impl<O: Objects> TeraOver<O> {
             (registry_of O.engine self.old) (registry_of O.engine self.new) }
     {
         self.refuse_once_filled("the fallback prefixes")?;
-        self.templates = Templates::new(self.alloc, copied(self.alloc, prefixes)?);
+        self.templates = Templates::new(self.alloc, copies_of(self.alloc, prefixes)?);
         Ok(())
     }
 
@@ -145,7 +145,7 @@ impl<O: Objects> TeraOver<O> {
             (Ok (with_suffixes (texts_of suffixes.now) (registry_of O.engine self.old)))
             (registry_of O.engine self.old) (registry_of O.engine self.new) }
     {
-        self.suffixes = copied(self.alloc, suffixes)?;
+        self.suffixes = copies_of(self.alloc, suffixes)?;
         Ok(())
     }
 

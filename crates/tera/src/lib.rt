@@ -15,10 +15,10 @@ mod texts;
 // The engine.
 pub use engine::{Tera, TeraOver};
 // Values, names and errors.
-pub use tera_errors::{Place, Sources, lacking, place_of};
+pub use tera_errors::{Place, Sources, alloc_result, place_of};
 pub use tera_values::{
     ArgFromValue, Arguments, Context, Counter, Error, ErrorKind, Key, Kwargs, Map, Name,
-    ReportError, Shape, Sought, Span, StringInput, TeraResult, Value, ValueKind, WritesValues,
+    ReportError, Shape, NameRef, Span, StringInput, TeraResult, Value, ValueKind, WritesValues,
     escape_html, escape_xml, number,
 };
 pub use tera_values_data::copy_items;
@@ -26,31 +26,31 @@ pub use tera_values_data::copy_items;
 pub use tera_components::{ComponentArg, ComponentDefinition, ComponentInfo};
 pub use tera_syntax::parse;
 pub use tera_syntax_tree::{
-    Applied, Argument, ArgumentType, BinaryOperator, Block, Bounds, Called, Captured, Choice,
-    Collected, ComponentTag, DefinedComponent, Delimiters, Entry, Expression, Heading, Indexed,
+    Applied, Argument, ArgumentType, BinaryOperator, Block, Bounds, FunctionCall, Captured, Choice,
+    Collected, ComponentTag, DefinedComponent, Delimiters, EntryExpression, Expression, Heading, Indexed,
     Item, Literal, LiteralEntry, LiteralKey, Node, Operands, OwnedKey, Parameter, ParserOutput,
     Quoted, SectionFilter, Signature, Sliced,
 };
 // What a template calls, and the state that it sees.
 pub use tera_built_ins::{BuiltInFilter, BuiltInFunction, BuiltInTest, EscapeFn, Escaping};
 pub use tera_objects::{
-    Call, CallerObjects, Objects, ObjectsOver, OwnFilters, Standard, Stored, StoredFilter,
-    StoredFunction, StoredTest, Table,
+    ObjectCall, CallerObjects, Objects, ObjectsOver, OwnFilters, BuiltInKind, Stored, StoredFilter,
+    StoredFunction, StoredTest, ObjectTable,
 };
 pub use tera_operators::{Entries, LentOperand, Operand};
 pub use tera_state::{
-    Filter, ForLoop, ForLoopIterator, Found, Function, Implicits, Stack, State, StateOver, Test,
+    Filter, ForLoop, ForLoopIterator, FoundValue, Function, Implicits, Stack, State, StateOver, Test,
     write_value,
 };
 // Code, templates by name, and what runs.
 pub use tera_code::{
     Allowance, BlockCode, Budget, CallKind, Callee, Chunk, Comparison, Compiler, Constant,
-    Instruction, Keys, LentInstruction, LentName, Names, Spreads, Steps, Tally, Target, Text,
-    Untold, compiled,
+    Instruction, Keys, LentInstruction, LentName, Names, Spreads, Steps, Tally, Target, LentText,
+    Untold, compile_body,
 };
 pub use tera_machine::{
-    Asked, AskedComponent, AskedTemplate, Configuration, Ended, LoopPlace, Numbered, OpenBlock,
-    OpenBlocks, OpenThings, Texts, VirtualMachine, Wanted,
+    BlockRequest, ComponentRequest, IncludeRequest, Configuration, EndedBlocks, LoopPlace, Numbered, OpenBlock,
+    OpenBodies, OpenThings, RenderedText, VirtualMachine, WantedBlock,
 };
 pub use tera_registry::{
     Body, Code, Component, Defined, Definer, Definers, FoundTemplate, Template, Templates,

@@ -11,7 +11,7 @@ pub(crate) fn no_template(alloc: Global, name: &str) -> Error
     ensures { result ≡ Some template_not_found }
 {
     match format!(in alloc; "there is no template `{name}`") {
-        Ok(words) => Error::template_not_found().telling(alloc, words.as_str()),
+        Ok(words) => Error::template_not_found().with_message(alloc, words.as_str()),
         Err(_) => Error::template_not_found(),
     }
 }
@@ -22,7 +22,7 @@ pub(crate) fn no_component(alloc: Global, name: &str) -> Error
     ensures { result ≡ Some component_not_found }
 {
     match format!(in alloc; "there is no component `{name}`") {
-        Ok(words) => Error::component_not_found().telling(alloc, words.as_str()),
+        Ok(words) => Error::component_not_found().with_message(alloc, words.as_str()),
         Err(_) => Error::component_not_found(),
     }
 }

@@ -12,11 +12,11 @@ ghost use Rattle.tera_machine.specs.Prelude.{Subject, IsLinked, IsOf, engine_of}
 
 use crate::engine::TeraOver;
 use std::alloc::{AllocError, Global};
-use tera_code::{Chunk, Steps, Tally, compiled};
+use tera_code::{Chunk, Steps, Tally, compile_body};
 use tera_machine::{Configuration, VirtualMachine};
 use tera_objects::Objects;
 use tera_registry::components::components;
-use tera_registry::tops::top_blocks;
+use tera_registry::top_blocks::top_blocks;
 use tera_registry::{Body, FoundTemplate, TextTable};
 use tera_state::Scopes;
 use tera_syntax::parse;
@@ -83,13 +83,13 @@ impl<O: Objects> TeraOver<O> {
         let alloc = self.alloc;
         let nodes = output.nodes.as_slice();
         let definitions = output.component_definitions.as_slice();
-        let chunk = compiled(alloc, ONE_OFF, nodes)?;
+        let chunk = compile_body(alloc, ONE_OFF, nodes)?;
         let own = components(alloc, ONE_OFF, definitions)?;
         let text = TextTable::new(alloc, &self.templates, chunk, own)?;
-        if text.lacks_a_callee(&self.objects) {
+        if text.has_missing_callee(&self.objects) {
             return Err(text.all_missing(ONE_OFF, source.text, &self.objects));
         }
-        if self.templates.misses_an_include(output) {
+        if self.templates.has_missing_include(output) {
             return Err(text.all_missing(ONE_OFF, source.text, &self.objects));
         }
         let alone = VirtualMachine::new_with_autoescape(alloc, autoescape, &self.objects);

@@ -12,12 +12,12 @@ use tera_values::{Error, TeraResult};
 
 // The texts of templates, and one that stands beside them.
 #[derive(Clone, Copy)]
-struct Texts<'a> {
+struct TextSources<'a> {
     templates: &'a Templates,
     beside: Option<&'a str>,
 }
 
-impl Sources for Texts<'_> {
+impl Sources for TextSources<'_> {
     fn source(&self, file: &str) -> Option<&str> {
         match self.beside {
             Some(text) if file == ONE_OFF => Some(text),
@@ -80,7 +80,7 @@ impl<O: Objects> TeraOver<O> {
         match answer {
             Ok(text) => Ok(text),
             Err(error) => {
-                let texts = Texts {
+                let texts = TextSources {
                     templates: &self.templates,
                     beside,
                 };

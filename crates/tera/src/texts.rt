@@ -9,7 +9,7 @@ use std::alloc::Global;
 use tera_values::TeraResult;
 
 /// A copy of each text.
-pub fn copied(alloc: Global, texts: &[&str]) -> TeraResult<Vec<String>>
+pub fn copies_of(alloc: Global, texts: &[&str]) -> TeraResult<Vec<String>>
     ensures { Gives (λ v. map string_bytes v.items) result (Ok (texts_of texts.now)) }
 {
     let mut copies = Vec::new(alloc);
@@ -23,7 +23,7 @@ pub fn copied(alloc: Global, texts: &[&str]) -> TeraResult<Vec<String>>
 pub fn standard_suffixes(alloc: Global) -> TeraResult<Vec<String>>
     ensures { Gives (λ v. map string_bytes v.items) result (Ok standard_suffixes) }
 {
-    copied(alloc, &[".html", ".htm", ".xml"])
+    copies_of(alloc, &[".html", ".htm", ".xml"])
 }
 
 /// Whether the name ends with one of the suffixes. Takes no memory.

@@ -6,8 +6,8 @@ use Rattle.tera_values.specs.Alphabet.{Alphabet, escaped}
 use Rattle.tera_values.specs.Escape.{escape_html}
 use Rattle.tera_values.specs.Named.{Named}
 use Rattle.tera_values.specs.Val.{Val}
-use Rattle.tera_built_ins.specs.declared.escaping.Escaping as declared
-use Rattle.tera_built_ins.specs.declared.escaping.Filtering as filtering
+use Rattle.tera_built_ins.specs.declared.escape_fn.Escaping as declared
+use Rattle.tera_built_ins.specs.declared.escape_fn.Filtering as filtering
 
 -- whether texts are escaped, and how
 pub record Escaping : Type 0 where

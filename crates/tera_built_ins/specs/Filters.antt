@@ -5,8 +5,8 @@ use Rattle.tera_errors.specs.Fault.{Fault, message}
 use Rattle.tera_values.specs.Val.{ValOf}
 use Rattle.tera_values.specs.Alphabet.{Alphabet}
 use Rattle.tera_values.specs.Named.{Named, at_name}
-use Rattle.tera_built_ins.specs.declared.filter.BuiltInFilter.{BuiltInFilter}
-use Rattle.tera_built_ins.specs.declared.filter.BuiltInFilter.TheVariants as filter
+use Rattle.tera_built_ins.specs.declared.built_in_filter.BuiltInFilter.{BuiltInFilter}
+use Rattle.tera_built_ins.specs.declared.built_in_filter.BuiltInFilter.TheVariants as filter
 use Rattle.tera_built_ins.specs.Escaping.{Escaping}
 use Rattle.tera_built_ins.specs.Safety.{safe_of, escape_of, str_of}
 use Rattle.tera_built_ins.specs.Defaults.{default_of}

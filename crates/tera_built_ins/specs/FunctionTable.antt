@@ -5,8 +5,8 @@ use Rattle.tera_errors.specs.Fault.{Fault, message}
 use Rattle.tera_values.specs.Val.{ValOf}
 use Rattle.tera_values.specs.Alphabet.{Alphabet}
 use Rattle.tera_values.specs.Named.{Named, at_name}
-use Rattle.tera_built_ins.specs.declared.function.BuiltInFunction.{BuiltInFunction}
-use Rattle.tera_built_ins.specs.declared.function.BuiltInFunction.TheVariants as function
+use Rattle.tera_built_ins.specs.declared.built_in_function.BuiltInFunction.{BuiltInFunction}
+use Rattle.tera_built_ins.specs.declared.built_in_function.BuiltInFunction.TheVariants as function
 use Rattle.tera_built_ins.specs.Functions.{range_of, throw_of}
 
 -- their names

@@ -5,8 +5,8 @@ use Rattle.tera_values.specs.Alphabet.{Alphabet, made}
 use Rattle.tera_values.specs.Val.{ValOf, KeyVal, kbool, kint, ktext, bool, int, text, array, vals}
 use Rattle.tera_values.specs.Access.{find}
 use Rattle.tera_values.specs.Named.{Named}
-use Rattle.tera_built_ins.specs.declared.maps.Part.{Part}
-use Rattle.tera_built_ins.specs.declared.maps.Part.TheVariants as part
+use Rattle.tera_built_ins.specs.declared.maps.EntryPart.{EntryPart}
+use Rattle.tera_built_ins.specs.declared.maps.EntryPart.TheVariants as part
 use Rattle.tera_built_ins.specs.Arguments.{◌▸◌, as_map, as_text, as_any, needed, optional}
 
 -- what is made of each entry, in the order of the map
@@ -35,7 +35,7 @@ module _ {C : Type 0} (alphabet : Alphabet C) where
   pair_of e = array (vals (key_value e.0 ∷ e.1 ∷ []))
 
   -- a part of an entry, as a value
-  abbrev pub part_value : Part → KeyVal × ValOf C → ValOf C
+  abbrev pub part_value : EntryPart → KeyVal × ValOf C → ValOf C
   part_value part.Value e = e.1
   part_value part.Key e = key_value e.0
   part_value part.Pair e = pair_of e

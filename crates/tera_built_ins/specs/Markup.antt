@@ -5,8 +5,8 @@ use Rattle.tera_errors.specs.Fault.{Fault}
 use Rattle.tera_values.specs.Alphabet.{Alphabet, plain, made}
 use Rattle.tera_values.specs.Val.{ValOf, text}
 use Rattle.tera_values.specs.Escape.{escape_html, escape_xml}
-use Rattle.tera_built_ins.specs.declared.markup.Markup.{Markup}
-use Rattle.tera_built_ins.specs.declared.markup.Markup.TheVariants.{Html, Xml}
+use Rattle.tera_built_ins.specs.declared.markup_filters.Markup.{Markup}
+use Rattle.tera_built_ins.specs.declared.markup_filters.Markup.TheVariants.{Html, Xml}
 use Rattle.tera_built_ins.specs.Arguments.{◌▸◌, as_text}
 use Rattle.tera_built_ins.specs.Replace.{replaced}
 

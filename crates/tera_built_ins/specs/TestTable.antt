@@ -5,8 +5,8 @@ use Rattle.tera_errors.specs.Fault.{Fault, message}
 use Rattle.tera_values.specs.Val.{ValOf}
 use Rattle.tera_values.specs.Alphabet.{Alphabet}
 use Rattle.tera_values.specs.Named.{Named, at_name}
-use Rattle.tera_built_ins.specs.declared.test.BuiltInTest.{BuiltInTest}
-use Rattle.tera_built_ins.specs.declared.test.BuiltInTest.TheVariants as test
+use Rattle.tera_built_ins.specs.declared.built_in_test.BuiltInTest.{BuiltInTest}
+use Rattle.tera_built_ins.specs.declared.built_in_test.BuiltInTest.TheVariants as test
 use Rattle.tera_built_ins.specs.Tests.{is_text, is_integer, is_map, is_bool, is_array, is_none, is_iterable, defined_test, undefined_test, odd_test, even_test, divisible_by_test, starting_with_test, ending_with_test, containing_test}
 
 -- their names

@@ -6,7 +6,7 @@ ghost use Rattle.tera_built_ins.specs.Arguments as spec;
 ghost use Rattle.tera_built_ins.specs.Reading.{given_of};
 
 use std::alloc::Global;
-use tera_values::refusals::unfit;
+use tera_values::refusals::unfit_value;
 use tera_values::{Arguments, Error, Map, Shape, TeraResult, Value};
 
 /// A text, and whether it is marked safe.
@@ -23,7 +23,7 @@ fn text_in<'a>(alloc: Global, argument: Option<&str>, value: &'a Value) -> TeraR
 {
     match value.shape() {
         Shape::Text(text, is_safe) => Ok(Given { text, is_safe }),
-        _ => Err(unfit(alloc, argument, value, "a string")),
+        _ => Err(unfit_value(alloc, argument, value, "a string")),
     }
 }
 
@@ -40,7 +40,7 @@ pub(crate) fn as_array(alloc: Global, value: &Value) -> TeraResult<&[Value]>
 {
     match value.shape() {
         Shape::Array(items) => Ok(items),
-        _ => Err(unfit(alloc, None, value, "an array")),
+        _ => Err(unfit_value(alloc, None, value, "an array")),
     }
 }
 
@@ -50,7 +50,7 @@ pub(crate) fn as_map(alloc: Global, value: &Value) -> TeraResult<&Map>
 {
     match value.shape() {
         Shape::Map(all) => Ok(all),
-        _ => Err(unfit(alloc, None, value, "a map")),
+        _ => Err(unfit_value(alloc, None, value, "a map")),
     }
 }
 
@@ -61,7 +61,7 @@ fn integer_in(alloc: Global, argument: Option<&str>, value: &Value) -> TeraResul
 {
     match value.shape() {
         Shape::Int(number) => Ok(number),
-        _ => Err(unfit(alloc, argument, value, "an integer")),
+        _ => Err(unfit_value(alloc, argument, value, "an integer")),
     }
 }
 
@@ -79,7 +79,7 @@ fn bool_in(alloc: Global, argument: &str, value: &Value) -> TeraResult<bool>
 {
     match value.shape() {
         Shape::Bool(flag) => Ok(flag),
-        _ => Err(unfit(alloc, Some(argument), value, "a bool")),
+        _ => Err(unfit_value(alloc, Some(argument), value, "a bool")),
     }
 }
 
@@ -109,7 +109,7 @@ fn out_of_range(alloc: Global, argument: &str, number: i128) -> Error
     };
     let words = format!(in alloc; "the argument `{argument}` is {number}, and {wanted} is wanted");
     match words {
-        Ok(words) => Error::invalid_argument().telling(alloc, words.as_str()),
+        Ok(words) => Error::invalid_argument().with_message(alloc, words.as_str()),
         Err(_) => Error::invalid_argument(),
     }
 }
@@ -137,7 +137,7 @@ pub(crate) fn needed_text<'a>(arguments: &Arguments<'a>, name: &str) -> TeraResu
     ensures { Gives given_of result (spec.needed spec.as_text name.now arguments.now) }
 {
     match arguments.value(name) {
-        None => Err(arguments.missing(name)),
+        None => Err(arguments.missing_error(name)),
         Some(value) => text_in(arguments.alloc(), Some(name), value),
     }
 }
@@ -165,7 +165,7 @@ pub(crate) fn needed_value<'a>(arguments: &Arguments<'a>, name: &str) -> TeraRes
     ensures { Gives (λ v. v.now) result (spec.needed spec.as_any name.now arguments.now) }
 {
     match arguments.value(name) {
-        None => Err(arguments.missing(name)),
+        None => Err(arguments.missing_error(name)),
         Some(value) => Ok(value),
     }
 }
@@ -176,7 +176,7 @@ pub(crate) fn needed_integer(arguments: &Arguments<'_>, name: &str) -> TeraResul
     ensures { Gives (λ z. z) result (spec.needed spec.as_integer name.now arguments.now) }
 {
     match arguments.value(name) {
-        None => Err(arguments.missing(name)),
+        None => Err(arguments.missing_error(name)),
         Some(value) => integer_in(arguments.alloc(), Some(name), value),
     }
 }
@@ -198,7 +198,7 @@ pub(crate) fn needed_size(arguments: &Arguments<'_>, name: &str) -> TeraResult<u
         (spec.needed (spec.as_natural (2 ^ 64)) name.now arguments.now) }
 {
     match arguments.value(name) {
-        None => Err(arguments.missing(name)),
+        None => Err(arguments.missing_error(name)),
         Some(value) => natural_in(arguments.alloc(), name, value, usize::MAX),
     }
 }

@@ -20,15 +20,15 @@ pub fn range(alloc: Global, arguments: &Arguments<'_>) -> TeraResult<Value>
     let start = integer_or(arguments, "start", 0)?;
     let end = needed_integer(arguments, "end")?;
     let step = integer_or(arguments, "step_by", 1)?;
-    match counted(start, end, step) {
-        Some(count) if count <= MOST => Ok(Value::array(stepping(alloc, start, step, count)?)),
+    match range_length(start, end, step) {
+        Some(count) if count <= MOST => Ok(Value::array(range_items(alloc, start, step, count)?)),
         Some(count) => Err(long_range(alloc, count, MOST)),
         None => Err(no_range(alloc, start, end, step)),
     }
 }
 
 /// How many numbers there are; none where there is no such range.
-fn counted(start: i128, end: i128, step: i128) -> Option<u128>
+fn range_length(start: i128, end: i128, step: i128) -> Option<u128>
     ensures count { there result ≡ counted start end step }
     ensures fits { IfSome result (λ count. HasRoom start step count) }
 {
@@ -63,7 +63,7 @@ fn strides(low: i128, high: i128, stride: u128) -> Option<u128>
 }
 
 #[inline(never)]
-fn stepping(alloc: Global, start: i128, step: i128, count: u128) -> TeraResult<Vec<Value>>
+fn range_items(alloc: Global, start: i128, step: i128, count: u128) -> TeraResult<Vec<Value>>
     requires { HasRoom start step count }
     ensures { Gives (λ v. v.items) result (Ok (stepping start step count)) }
 {

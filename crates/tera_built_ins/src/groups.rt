@@ -48,7 +48,7 @@ fn grouped_items(alloc: Global, items: &[Value], path: &str) -> TeraResult<Value
         ▸ λ keyed. Ok (group_arrays (groups (filter_map (λ e. e) keyed)))) }
 {
     let keyed = with_keys(alloc, items, path)?;
-    let gathered = gathered(alloc, keyed)?;
+    let gathered = gather_groups(alloc, keyed)?;
     Ok(Value::map(group_arrays(alloc, gathered)?))
 }
 
@@ -81,7 +81,7 @@ fn key_or_none(alloc: Global, attribute: &Value) -> TeraResult<Option<Key>>
     Ok(Some(attribute.as_key(alloc)?))
 }
 
-fn gathered(alloc: Global, keyed: Vec<Keyed<'_>>) -> TeraResult<Vec<Group>>
+fn gather_groups(alloc: Global, keyed: Vec<Keyed<'_>>) -> TeraResult<Vec<Group>>
     ensures { Gives (λ v. each group_view v.items) result
         (Ok (groups (each keyed_view keyed.entry.items))) }
 {

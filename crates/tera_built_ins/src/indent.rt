@@ -9,9 +9,9 @@ ghost use Rattle.tera_built_ins.specs.Reading.{given_of};
 ghost use Rattle.tera_built_ins.specs.Indent as spec;
 
 use crate::arguments::{Given, as_text, flag, optional_text, size_or};
-use crate::escaping::{EscapeFn, Filtering};
+use crate::escape_fn::{EscapeFn, Filtering};
 use crate::refusals::no_character;
-use crate::safe_parts::{given_safe, part};
+use crate::safe_answers::{is_given_safe, part};
 use std::alloc::Global;
 use tera_values::{Error, TeraResult, Value};
 
@@ -50,7 +50,7 @@ fn append_later(line: &str, padding: &str, blank: bool, out: &mut String) -> Ter
     Ok(())
 }
 
-fn indented(
+fn indent_lines(
     alloc: Global,
     text: &str,
     padding: &str,
@@ -124,10 +124,10 @@ pub fn indent<E: EscapeFn>(filtering: Filtering<'_, E>) -> TeraResult<Value>
     if !is_character(indentation) {
         return Err(no_indentation(filtering.alloc, indentation));
     }
-    let is_safe = filtering.escaping.autoescape && (given.is_safe || given_safe(indentation));
+    let is_safe = filtering.escaping.autoescape && (given.is_safe || is_given_safe(indentation));
     let padding = padding(filtering, is_safe, indentation, width.min(1000))?;
     let text = part(filtering, is_safe, given)?;
-    let answer = indented(
+    let answer = indent_lines(
         filtering.alloc,
         text.as_str(),
         padding.as_str(),

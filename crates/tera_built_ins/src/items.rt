@@ -7,7 +7,7 @@ use crate::arguments::{as_array, needed_size};
 use std::alloc::Global;
 use tera_values::{Arguments, TeraResult, Value};
 
-fn or_none(found: Option<&Value>) -> TeraResult<Value>
+fn value_or_none(found: Option<&Value>) -> TeraResult<Value>
     ensures { Gives (λ v. v) result (Ok (or_none (option_copied found.entry))) }
 {
     match found {
@@ -20,14 +20,14 @@ fn or_none(found: Option<&Value>) -> TeraResult<Value>
 pub fn first(alloc: Global, value: &Value) -> TeraResult<Value>
     ensures { Gives (λ v. v) result (first_of value.now) }
 {
-    or_none(as_array(alloc, value)?.first())
+    value_or_none(as_array(alloc, value)?.first())
 }
 
 /// The last item of an array, with its mark; none where there is no item.
 pub fn last(alloc: Global, value: &Value) -> TeraResult<Value>
     ensures { Gives (λ v. v) result (last_of value.now) }
 {
-    or_none(as_array(alloc, value)?.last())
+    value_or_none(as_array(alloc, value)?.last())
 }
 
 /// The item at a position of an array, counted from 0, with its mark; none where the array is shorter.
@@ -36,5 +36,5 @@ pub fn nth(alloc: Global, value: &Value, arguments: &Arguments<'_>) -> TeraResul
 {
     let items = as_array(alloc, value)?;
     let position = needed_size(arguments, "n")?;
-    or_none(items.get(position))
+    value_or_none(items.get(position))
 }

@@ -9,8 +9,8 @@ ghost use Rattle.tera_built_ins.specs.Reading.{given_of};
 ghost use Rattle.tera_built_ins.specs.Join.{is_safe_text, item_part, separator_part, join_of};
 
 use crate::arguments::{Given, as_array, optional_text};
-use crate::escaping::{EscapeFn, Escaping, Filtering};
-use crate::safe_parts::{given_safe, part};
+use crate::escape_fn::{EscapeFn, Escaping, Filtering};
+use crate::safe_answers::{is_given_safe, part};
 use std::borrow::CowStr;
 use tera_values::{Shape, TeraResult, Value};
 
@@ -21,9 +21,9 @@ pub fn join<E: EscapeFn>(filtering: Filtering<'_, E>) -> TeraResult<Value>
 {
     let items = as_array(filtering.alloc, filtering.value)?;
     let separator = optional_text(filtering.arguments, "sep")?;
-    let is_safe = filtering.escaping.autoescape && (has_safe_text(items) || given_safe(separator));
+    let is_safe = filtering.escaping.autoescape && (has_safe_text(items) || is_given_safe(separator));
     let between = separator_part(filtering, is_safe, separator)?;
-    let row = row(filtering, is_safe, items, between.as_str())?;
+    let row = join_items(filtering, is_safe, items, between.as_str())?;
     Value::from_string(filtering.alloc, row, is_safe)
 }
 
@@ -62,7 +62,7 @@ fn separator_part<'a, E: EscapeFn>(
     }
 }
 
-fn row<E: EscapeFn>(
+fn join_items<E: EscapeFn>(
     filtering: Filtering<'_, E>,
     is_safe: bool,
     items: &[Value],

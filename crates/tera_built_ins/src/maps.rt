@@ -11,7 +11,7 @@ use tera_values::{Arguments, Key, TeraResult, Value};
 
 /// What is taken of each entry of a map.
 #[derive(Clone, Copy)]
-enum Part {
+enum EntryPart {
     Value,
     Key,
     Pair,
@@ -21,25 +21,25 @@ enum Part {
 pub fn values(alloc: Global, value: &Value) -> TeraResult<Value>
     ensures { Gives (λ v. v) result (values_of value.now) }
 {
-    each_of(alloc, value, Part::Value)
+    each_of(alloc, value, EntryPart::Value)
 }
 
 /// The keys of a map, in its order; a text key is an unmarked text.
 pub fn keys(alloc: Global, value: &Value) -> TeraResult<Value>
     ensures { Gives (λ v. v) result (keys_of plain value.now) }
 {
-    each_of(alloc, value, Part::Key)
+    each_of(alloc, value, EntryPart::Key)
 }
 
 /// Each key of a map with its value, as an array of two, in its order.
 pub fn pairs(alloc: Global, value: &Value) -> TeraResult<Value>
     ensures { Gives (λ v. v) result (pairs_of plain value.now) }
 {
-    each_of(alloc, value, Part::Pair)
+    each_of(alloc, value, EntryPart::Pair)
 }
 
 // An array of this part of each entry of a map, in its order.
-fn each_of(alloc: Global, value: &Value, part: Part) -> TeraResult<Value>
+fn each_of(alloc: Global, value: &Value, part: EntryPart) -> TeraResult<Value>
     ensures { Gives (λ v. v) result (each_of (part_value plain part) value.now) }
 {
     let all = as_map(alloc, value)?;
@@ -53,14 +53,14 @@ fn each_of(alloc: Global, value: &Value, part: Part) -> TeraResult<Value>
 }
 
 // A part of an entry, as a value.
-fn part_value(alloc: Global, part: Part, key: &Key, item: &Value) -> TeraResult<Value>
+fn part_value(alloc: Global, part: EntryPart, key: &Key, item: &Value) -> TeraResult<Value>
     ensures { Gives (λ v. v) result
         (Ok (part_value plain part (key_view key.now, item.now))) }
 {
     match part {
-        Part::Value => item.try_clone(),
-        Part::Key => Value::from_key(alloc, key),
-        Part::Pair => pair(alloc, key, item),
+        EntryPart::Value => item.try_clone(),
+        EntryPart::Key => Value::from_key(alloc, key),
+        EntryPart::Pair => pair(alloc, key, item),
     }
 }
 

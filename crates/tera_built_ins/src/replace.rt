@@ -6,15 +6,15 @@ ghost use Rattle.tera_built_ins.specs.Escaping.{applied};
 ghost use Rattle.tera_built_ins.specs.Replace.{replaced, replace_of};
 
 use crate::arguments::{as_text, needed_text};
-use crate::escaping::{EscapeFn, Filtering};
-use crate::safe_parts::part;
+use crate::escape_fn::{EscapeFn, Filtering};
+use crate::safe_answers::part;
 use crate::searching::{is_short, split_at_first};
 use memchr::memmem::Finder;
 use std::alloc::Global;
 use tera_values::{TeraResult, Value};
 
 /// The text with another one at all positions of a pattern.
-pub(crate) fn put(alloc: Global, text: &str, from: &str, to: &str) -> TeraResult<String>
+pub(crate) fn replace_all(alloc: Global, text: &str, from: &str, to: &str) -> TeraResult<String>
     ensures { Gives string_bytes result (Ok (replaced plain.code from.now to.now text.now)) }
 {
     if from.is_empty() || is_short(from, text) {
@@ -52,6 +52,6 @@ pub fn replace<E: EscapeFn>(filtering: Filtering<'_, E>) -> TeraResult<Value>
     let is_safe = filtering.escaping.autoescape && (given.is_safe || to.is_safe);
     let text = part(filtering, is_safe, given)?;
     let to = part(filtering, is_safe, to)?;
-    let answer = put(filtering.alloc, text.as_str(), from.text, to.as_str())?;
+    let answer = replace_all(filtering.alloc, text.as_str(), from.text, to.as_str())?;
     Value::from_string(filtering.alloc, answer, is_safe)
 }

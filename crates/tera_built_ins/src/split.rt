@@ -12,7 +12,7 @@ use std::alloc::Global;
 use tera_values::{Arguments, TeraResult, Value};
 
 /// What stands between the positions of a pattern that is not empty.
-fn between(alloc: Global, content: &str, pattern: &str) -> TeraResult<Vec<Value>>
+fn split_at_each(alloc: Global, content: &str, pattern: &str) -> TeraResult<Vec<Value>>
     requires { pattern.now ≢ [] }
     ensures { Gives (λ v. v.items) result
         (Ok (made_texts plain (pieces plain.code pattern.now content.now))) }
@@ -28,7 +28,7 @@ fn between(alloc: Global, content: &str, pattern: &str) -> TeraResult<Vec<Value>
 }
 
 // The same of a content that is not short.
-fn between_places(alloc: Global, content: &str, pattern: &str) -> TeraResult<Vec<Value>>
+fn split_long_at_each(alloc: Global, content: &str, pattern: &str) -> TeraResult<Vec<Value>>
     requires { pattern.now ≢ [] }
     ensures { Gives (λ v. v.items) result
         (Ok (made_texts plain (pieces plain.code pattern.now content.now))) }
@@ -68,9 +68,9 @@ pub fn split(alloc: Global, value: &Value, arguments: &Arguments<'_>) -> TeraRes
     let pieces = if pattern.text.is_empty() {
         letters(alloc, given.text)?
     } else if is_short(pattern.text, given.text) {
-        between(alloc, given.text, pattern.text)?
+        split_at_each(alloc, given.text, pattern.text)?
     } else {
-        between_places(alloc, given.text, pattern.text)?
+        split_long_at_each(alloc, given.text, pattern.text)?
     };
     Ok(Value::array(pieces))
 }

@@ -6,11 +6,11 @@ ghost use Rattle.tera_built_ins.specs.Reading.{given_of};
 ghost use Rattle.tera_built_ins.specs.Trims as spec;
 
 use crate::arguments::{Given, as_text, optional_text};
-use crate::safe_parts::made;
+use crate::safe_answers::text_value;
 use std::alloc::Global;
 use tera_values::{Arguments, TeraResult, Value};
 
-fn off_start<'a>(text: &'a str, pattern: Option<Given<'_>>) -> &'a str
+fn without_start<'a>(text: &'a str, pattern: Option<Given<'_>>) -> &'a str
     ensures { result.now ≡ spec.off_start plain (option_map given_of pattern.entry) text.now }
 {
     match pattern {
@@ -19,7 +19,7 @@ fn off_start<'a>(text: &'a str, pattern: Option<Given<'_>>) -> &'a str
     }
 }
 
-fn off_end<'a>(text: &'a str, pattern: Option<Given<'_>>) -> &'a str
+fn without_end<'a>(text: &'a str, pattern: Option<Given<'_>>) -> &'a str
     ensures { result.now ≡ spec.off_end plain (option_map given_of pattern.entry) text.now }
 {
     match pattern {
@@ -34,7 +34,7 @@ pub fn trim_start(alloc: Global, value: &Value, arguments: &Arguments<'_>) -> Te
 {
     let given = as_text(alloc, value)?;
     let pattern = optional_text(arguments, "pat")?;
-    made(alloc, off_start(given.text, pattern), given.is_safe)
+    text_value(alloc, without_start(given.text, pattern), given.is_safe)
 }
 
 /// The same at its end.
@@ -43,7 +43,7 @@ pub fn trim_end(alloc: Global, value: &Value, arguments: &Arguments<'_>) -> Tera
 {
     let given = as_text(alloc, value)?;
     let pattern = optional_text(arguments, "pat")?;
-    made(alloc, off_end(given.text, pattern), given.is_safe)
+    text_value(alloc, without_end(given.text, pattern), given.is_safe)
 }
 
 /// The same at its start, and then at its end: a pattern that is left over between the two is not looked for again.
@@ -52,6 +52,6 @@ pub fn trim(alloc: Global, value: &Value, arguments: &Arguments<'_>) -> TeraResu
 {
     let given = as_text(alloc, value)?;
     let pattern = optional_text(arguments, "pat")?;
-    let rest = off_end(off_start(given.text, pattern), pattern);
-    made(alloc, rest, given.is_safe)
+    let rest = without_end(without_start(given.text, pattern), pattern);
+    text_value(alloc, rest, given.is_safe)
 }

@@ -20,7 +20,7 @@ use Rattle.tera.specs.Lent.{texts_of}
 use Rattle.tera.specs.Registering.{with_engine, MovesFrom}
 use Rattle.tera.specs.Registry.{registry_of}
 use Rattle.tera.specs.declared.engine.TeraOver.{TeraOver}
-use Rattle.tera_objects.specs.declared.over.ObjectsOver.{ObjectsOver}
+use Rattle.tera_objects.specs.declared.caller_objects.ObjectsOver.{ObjectsOver}
 use Rattle.tera_calls.specs.declared.call.CallOver.{CallOver}
 use Rattle.tera_calls.specs.declared.call.CallOver.TheVariants.{SetDelimiters, SetFallbackPrefixes, AutoescapeOn, InsertGlobal, SetGlobal, AddRawTemplate, AddRawTemplates, SetEscapeFn, ResetEscapeFn, RegisterFilter, RegisterTest, RegisterFunction, RegisterFrom}
 use Rattle.tera_calls.specs.Calls.{Answer, Ends, Leads, with_context, with_global}

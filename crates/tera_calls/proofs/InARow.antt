@@ -3,7 +3,7 @@ use Rattle.std.proofs.Common.{◌≡◌, List, [], ◌∷◌, ◌++◌, refl, sy
 use Rattle.tera.specs.declared.engine.TeraOver.{TeraOver}
 use Rattle.tera.specs.Registry.{registry_of}
 use Rattle.tera_objects.specs.Kept.{Meanings, engine_of}
-use Rattle.tera_objects.specs.declared.over.ObjectsOver.{ObjectsOver}
+use Rattle.tera_objects.specs.declared.caller_objects.ObjectsOver.{ObjectsOver}
 use Rattle.tera_meaning.specs.Registry.{Registry}
 use Rattle.tera_calls.specs.declared.call.CallOver.{CallOver}
 use Rattle.tera_calls.specs.Calls.{Answer, Ends, Leads}

@@ -5,7 +5,7 @@ ghost use Rattle.tera_calls.specs.Calls.{Ends, Leads, with_context, with_global}
 ghost use Rattle.tera_errors.specs.Prelude.{Lacks};
 ghost use Rattle.tera_meaning.specs.Prelude.{IsAccepted};
 
-use crate::boxed::Meant;
+use crate::object_types::ObjectTypes;
 use std::alloc::Global;
 use tera::{
     CallerObjects, Context, Delimiters, EscapeFn, Filter, Function, Objects, Tera, TeraOver,
@@ -86,7 +86,7 @@ pub type Call<'a> = CallOver<
 /// out.
 pub fn make_call(engine: &mut Tera, call: Call<'_>) -> TeraResult<()>
     ensures { let seen = registry_of ⟦<CallerObjects as Objects>⟧.engine in
-        Ends ⟦<CallerObjects as Meant>⟧.meanings call.entry result
+        Ends ⟦<CallerObjects as ObjectTypes>⟧.meanings call.entry result
         (seen engine.old) (seen engine.new) }
 {
     match call {
@@ -123,7 +123,7 @@ pub fn make_calls(
     calls: Vec<Call<'_>>,
 ) -> TeraResult<Vec<TeraResult<()>>>
     ensures answers { let seen = registry_of ⟦<CallerObjects as Objects>⟧.engine in
-        IfOk result (λ answers. Leads ⟦<CallerObjects as Meant>⟧.meanings
+        IfOk result (λ answers. Leads ⟦<CallerObjects as ObjectTypes>⟧.meanings
         (seen engine.old) calls.entry.items answers.items (seen engine.new)) }
     ensures accepted { let seen = registry_of ⟦<CallerObjects as Objects>⟧.engine in
         IsAccepted (seen engine.old) → IsAccepted (seen engine.new) }

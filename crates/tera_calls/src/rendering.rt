@@ -55,7 +55,7 @@ pub enum Rendering<'a> {
 
 /// What the call answers: exactly what is meant, and where texts are escaped, no markup but from template text or a value marked
 /// safe.
-pub fn rendered<O: Objects>(
+pub fn render_call<O: Objects>(
     alloc: Global,
     engine: &TeraOver<O>,
     rendering: &Rendering<'_>,
@@ -63,11 +63,11 @@ pub fn rendered<O: Objects>(
     ensures { GivesOneOf string_bytes result
         (Rendered (registry_of O.engine engine.now) rendering.now) }
 {
-    answered(alloc, engine, rendering)
+    answer_of(alloc, engine, rendering)
 }
 
 /// Appends what the call answers, by the engine's call whose name ends with `_to`. After an error the vector is as before.
-pub fn rendered_to<O: Objects>(
+pub fn render_call_to<O: Objects>(
     engine: &TeraOver<O>,
     call: &EngineRendering<'_>,
     out: &mut Vec<u8>,
@@ -75,12 +75,12 @@ pub fn rendered_to<O: Objects>(
     ensures { AppendsOneOf result out.old.items out.new.items
         (Renders (registry_of O.engine engine.now) call.now) }
 {
-    appended(engine, call, out)
+    append_answer(engine, call, out)
 }
 
 // What follows is the same, said as the engine's calls say it.
 
-fn answered<O: Objects>(
+fn answer_of<O: Objects>(
     alloc: Global,
     engine: &TeraOver<O>,
     rendering: &Rendering<'_>,
@@ -89,7 +89,7 @@ fn answered<O: Objects>(
         (Answered (registry_of O.engine engine.now) rendering.now) }
 {
     match rendering {
-        Rendering::ByEngine { call } => answered_by(engine, call),
+        Rendering::ByEngine { call } => answer_by_engine(engine, call),
         Rendering::OneOff {
             input,
             context,
@@ -98,7 +98,7 @@ fn answered<O: Objects>(
     }
 }
 
-fn answered_by<O: Objects>(engine: &TeraOver<O>, call: &EngineRendering<'_>) -> TeraResult<String>
+fn answer_by_engine<O: Objects>(engine: &TeraOver<O>, call: &EngineRendering<'_>) -> TeraResult<String>
     ensures { GivesOneOf string_bytes result
         (Answers (registry_of O.engine engine.now) call.now) }
 {
@@ -124,7 +124,7 @@ fn answered_by<O: Objects>(engine: &TeraOver<O>, call: &EngineRendering<'_>) -> 
     }
 }
 
-fn appended<O: Objects>(
+fn append_answer<O: Objects>(
     engine: &TeraOver<O>,
     call: &EngineRendering<'_>,
     out: &mut Vec<u8>,

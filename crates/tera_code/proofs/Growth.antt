@@ -17,7 +17,7 @@ use Rattle.tera_code.specs.declared.packed.Packed.{Packed}
 use Rattle.tera_code.specs.declared.packed.Packed.TheVariants as packed
 use Rattle.tera_code.specs.declared.packed.LoopNames.{LoopNames}
 use Rattle.tera_code.specs.declared.packed.Tables.{Tables}
-use Rattle.tera_code.specs.Packed.{Shelf, shelf_of, Longer, Grows, Packs, Within, unpacked, span_at, name_at, call_at, target_at}
+use Rattle.tera_code.specs.Packed.{TableContents, tables_of, Longer, Grows, Packs, Within, unpacked, span_at, name_at, call_at, target_at}
 use Rattle.tera_code.specs.Listing.{Listing}
 use Rattle.tera_code.specs.Code.{lengthened}
 use Rattle.tera_code.specs.Filling.{filled}
@@ -63,10 +63,10 @@ at_longer : {X : Type 0} (xs ys : List X) (n : ℕ) (d : X) → Longer xs ys →
 at_longer xs ys n d g l =
     (omega (arith, ap length g, length-append xs (drop (length xs) ys), l), ap (λ z. get_or z n d) g ∙ get_or_append_left xs (drop (length xs) ys) d n l)
 
-abbrev chunk_of : Shelf → List Packed → Text → Listing
+abbrev chunk_of : TableContents → List Packed → Text → Listing
 chunk_of s ps file = record { file = file; code = map (unpacked s) ps }
 
-module _ (s t : Shelf) (u : IsUtf8 s.pool) (v : IsUtf8 t.pool) (g : Grows s t) where
+module _ (s t : TableContents) (u : IsUtf8 s.pool) (v : IsUtf8 t.pool) (g : Grows s t) where
   spanned : (make : Span → Instruction) (span : ℕ) → span < length s.spans → (span < length t.spans) × (make (span_at t span) ≡ make (span_at s span))
   spanned make span w = let at = at_longer s.spans t.spans span (record { start = 0; end = 0 }) g.1.1.1.1.1.0 w in (at.0, ap make at.1)
 
@@ -134,7 +134,7 @@ module _ (s t : Shelf) (u : IsUtf8 s.pool) (v : IsUtf8 t.pool) (g : Grows s t) w
       let name = at_longer s.targets t.targets target [] g.1.1.1.1.1.1.1.1 w.0 in
       let rest = beside s.keys t.keys [] g.1.1.1.1.0 (λ y z. instruction.TakeComponent (target_at s target) y has_body z) keys span (w.1, w.2) in
       ((name.0, rest.0.0, rest.0.1), ap (λ x. instruction.TakeComponent x (get_or t.keys keys []) has_body (span_at t span)) name.1 ∙ rest.1)
-  stays (packed.TakeAbove span arguments) w = spanned (λ y. instruction.TakeAbove arguments y) span w
+  stays (packed.TakeSuper span arguments) w = spanned (λ y. instruction.TakeSuper arguments y) span w
   stays (packed.ApplyFilter call span) w = called (λ x y. instruction.ApplyFilter x.0 x.1 y) call span w
   stays (packed.ApplyTest call span) w = called (λ x y. instruction.ApplyTest x.0 x.1 y) call span w
   stays (packed.CallFunction call span) w = called (λ x y. instruction.CallFunction x.0 x.1 y) call span w
@@ -147,29 +147,29 @@ module _ (s t : Shelf) (u : IsUtf8 s.pool) (v : IsUtf8 t.pool) (g : Grows s t) w
       (All-cons (Within t) p ps first.0 rest.0, ap₂ (λ x xs. x ∷ xs) first.1 rest.1)
 
 -- a chunk whose tables grow: its instructions stay, and one is put behind them or at a position that was kept for it
-module _ (s t : Tables) (g : Grows (shelf_of s) (shelf_of t)) (ps : List Packed) (h : All (Within (shelf_of s)) ps) where
-  stay : All (Within (shelf_of t)) ps × (map (unpacked (shelf_of t)) ps ≡ map (unpacked (shelf_of s)) ps)
-  stay = code_stays (shelf_of s) (shelf_of t) (IsUtf8-string_bytes s.pool) (IsUtf8-string_bytes t.pool) g ps h
+module _ (s t : Tables) (g : Grows (tables_of s) (tables_of t)) (ps : List Packed) (h : All (Within (tables_of s)) ps) where
+  stay : All (Within (tables_of t)) ps × (map (unpacked (tables_of t)) ps ≡ map (unpacked (tables_of s)) ps)
+  stay = code_stays (tables_of s) (tables_of t) (IsUtf8-string_bytes s.pool) (IsUtf8-string_bytes t.pool) g ps h
 
   -- no instruction is added, be it for want of a position
-  pub all_stay : (qs : List Packed) → qs ≡ ps → All (Within (shelf_of t)) qs
-  all_stay qs e = subst (All (Within (shelf_of t))) (sym e) stay.0
+  pub all_stay : (qs : List Packed) → qs ≡ ps → All (Within (tables_of t)) qs
+  all_stay qs e = subst (All (Within (tables_of t))) (sym e) stay.0
 
-  pub all_grow : (qs : List Packed) (p : Packed) (i : Instruction) → Packs (shelf_of t) p i → qs ≡ ps ++ p ∷ [] → All (Within (shelf_of t)) qs
+  pub all_grow : (qs : List Packed) (p : Packed) (i : Instruction) → Packs (tables_of t) p i → qs ≡ ps ++ p ∷ [] → All (Within (tables_of t)) qs
   all_grow qs p i is e =
-      let within = Within (shelf_of t) in
+      let within = Within (tables_of t) in
       subst (All within) (sym e) (All-append within ps (p ∷ []) stay.0 (All-cons within p [] is.0 (All-nil within)))
 
-  pub chunk_grows : (qs : List Packed) (p : Packed) (i : Instruction) → Packs (shelf_of t) p i → qs ≡ ps ++ p ∷ [] → (file : Text) (l : Listing) → chunk_of (shelf_of s) ps file ≡ l → chunk_of (shelf_of t) qs file ≡ lengthened l (i ∷ [])
+  pub chunk_grows : (qs : List Packed) (p : Packed) (i : Instruction) → Packs (tables_of t) p i → qs ≡ ps ++ p ∷ [] → (file : Text) (l : Listing) → chunk_of (tables_of s) ps file ≡ l → chunk_of (tables_of t) qs file ≡ lengthened l (i ∷ [])
   chunk_grows qs p i is e file l was =
-      let new = unpacked (shelf_of t) in
+      let new = unpacked (tables_of t) in
       ap (λ code. record { file = file; code = code }) (ap (map new) e ∙ map-append new ps (p ∷ []) ∙ ap₂ (λ x y. x ++ y ∷ []) stay.1 is.1)
       ∙ ap (λ k. lengthened k (i ∷ [])) was
 
-  pub all_filled : (at : ℕ) (p : Packed) (i : Instruction) → Packs (shelf_of t) p i → All (Within (shelf_of t)) (set ps at p)
-  all_filled at p i is = All-set (Within (shelf_of t)) ps at p is.0 stay.0
+  pub all_filled : (at : ℕ) (p : Packed) (i : Instruction) → Packs (tables_of t) p i → All (Within (tables_of t)) (set ps at p)
+  all_filled at p i is = All-set (Within (tables_of t)) ps at p is.0 stay.0
 
-  pub chunk_filled : (at : ℕ) (p : Packed) (i : Instruction) → Packs (shelf_of t) p i → (file : Text) (l : Listing) → chunk_of (shelf_of s) ps file ≡ l → chunk_of (shelf_of t) (set ps at p) file ≡ filled at i l
+  pub chunk_filled : (at : ℕ) (p : Packed) (i : Instruction) → Packs (tables_of t) p i → (file : Text) (l : Listing) → chunk_of (tables_of s) ps file ≡ l → chunk_of (tables_of t) (set ps at p) file ≡ filled at i l
   chunk_filled at p i is file l was =
-      ap (λ code. record { file = file; code = code }) (map-set (unpacked (shelf_of t)) ps at p ∙ ap₂ (λ xs x. set xs at x) stay.1 is.1)
+      ap (λ code. record { file = file; code = code }) (map-set (unpacked (tables_of t)) ps at p ∙ ap₂ (λ xs x. set xs at x) stay.1 is.1)
       ∙ ap (filled at i) was

@@ -12,18 +12,18 @@ use Rattle.tera_code.specs.declared.instruction.Instruction.{Instruction}
 use Rattle.tera_code.specs.declared.instruction.Instruction.TheVariants as instruction
 use Rattle.tera_code.specs.declared.packed.Packed.{Packed}
 use Rattle.tera_code.specs.declared.packed.Packed.TheVariants as packed
-use Rattle.tera_code.specs.Asked.{loaded_name, started_loop, uses_top_at}
-use Rattle.tera_code.specs.Packed.{Shelf, Within, unpacked}
+use Rattle.tera_code.specs.InstructionParts.{loaded_name, started_loop, uses_top_at}
+use Rattle.tera_code.specs.Packed.{TableContents, Within, unpacked}
 use Rattle.tera_code.specs.Printing.{printing, printing_loop_at}
 use Rattle.tera_code.specs.Settled.{Notes, Settled, has_notes, reads_on, printing_size}
 use Rattle.tera_code.proofs.Parts.{sized, turn_ends}
 
 -- what stands at a position
-pub meant_there : (s : Shelf) (ps : List Packed) (i : ℕ) (d : Packed) → i < length ps → slice_get (map (unpacked s) ps) i ≡ Some (unpacked s (get_or ps i d))
+pub meant_there : (s : TableContents) (ps : List Packed) (i : ℕ) (d : Packed) → i < length ps → slice_get (map (unpacked s) ps) i ≡ Some (unpacked s (get_or ps i d))
 meant_there s ps i d l = slice_get-map (unpacked s) ps i ∙ ap (option_map (unpacked s)) (slice_get-get_or ps i d l)
 
 -- nothing is noted in others
-plain : (s : Shelf) (p : Packed) → has_notes p ≡ false → (loaded_name (unpacked s p) ≡ None) × (started_loop (unpacked s p) ≡ None) × (reads_on p ≡ false) × (printing_size p ≡ None)
+plain : (s : TableContents) (p : Packed) → has_notes p ≡ false → (loaded_name (unpacked s p) ≡ None) × (started_loop (unpacked s p) ≡ None) × (reads_on p ≡ false) × (printing_size p ≡ None)
 plain s (packed.LoadName is_used name span) e = cc
 plain s (packed.StartLoop counts prints names size) e = cc
 plain s other e = (refl, refl, refl, refl)
@@ -45,7 +45,7 @@ module _ (code : List Instruction) (i : ℕ) where
         prints = subst (λ o. cond (is_some (prints o)) (Some size) None ≡ prints o) (sym e) (sized code i key name counts size);
       }
 
-  pub notes_other : (s : Shelf) (p : Packed) → has_notes p ≡ false → slice_get code i ≡ Some (unpacked s p) → Notes code i p
+  pub notes_other : (s : TableContents) (p : Packed) → has_notes p ≡ false → slice_get code i ≡ Some (unpacked s p) → Notes code i p
   notes_other s p h e =
       let known = plain s p h in
       record {
@@ -60,16 +60,16 @@ not_noted (packed.StartLoop x y n m) a b = absurd (b x y n m refl)
 not_noted other a b = refl
 
 -- packed instructions that mean what they did, and are noted up to a position
-pub record Noted (s : Shelf) (from : List Packed) (i : ℕ) (ps : List Packed) : Type 0 where
+pub record Noted (s : TableContents) (from : List Packed) (i : ℕ) (ps : List Packed) : Type 0 where
   pub long : length ps ≡ length from
   pub within : All (Within s) ps
   pub same : map (unpacked s) ps ≡ map (unpacked s) from
   pub notes : (k : ℕ) → k < i → Notes (map (unpacked s) from) k (get_or ps k (packed.WriteText 0 0))
 
-pub none_noted : (s : Shelf) (ps : List Packed) → All (Within s) ps → Noted s ps 0 ps
+pub none_noted : (s : TableContents) (ps : List Packed) → All (Within s) ps → Noted s ps 0 ps
 none_noted s ps w = record { long = refl; within = w; same = refl; notes = λ k l. absurd (omega (arith, l)) }
 
-module _ (s : Shelf) (from : List Packed) (i : ℕ) (ps : List Packed) (n : Noted s from i ps) where
+module _ (s : TableContents) (from : List Packed) (i : ℕ) (ps : List Packed) (n : Noted s from i ps) where
   -- one more is noted
   pub one_noted : (p : Packed) → i < length ps → Within s p → unpacked s p ≡ unpacked s (get_or ps i (packed.WriteText 0 0)) → Notes (map (unpacked s) ps) i p → Noted s from (i + 1) (set ps i p)
   one_noted p l w e h =
@@ -102,7 +102,7 @@ module _ (s : Shelf) (from : List Packed) (i : ℕ) (ps : List Packed) (n : Note
       }
 
 -- what is noted at a position
-pub noted_at : (s : Shelf) (ps : List Packed) → Settled s ps → (i : ℕ) (p : Packed) → slice_get ps i ≡ Some p → Notes (map (unpacked s) ps) i p
+pub noted_at : (s : TableContents) (ps : List Packed) → Settled s ps → (i : ℕ) (p : Packed) → slice_get ps i ≡ Some p → Notes (map (unpacked s) ps) i p
 noted_at s ps h i p e =
     subst (Notes (map (unpacked s) ps) i) (get_or_from_slice_get ps i p (packed.WriteText 0 0) e) (h.notes i (slice_get_within ps i p e))
 

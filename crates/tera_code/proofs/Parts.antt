@@ -5,7 +5,7 @@ use Rattle.tera_errors.specs.Site.{Name}
 use Rattle.tera_values.specs.Naming.{counter_of}
 use Rattle.tera_code.specs.declared.instruction.Instruction.{Instruction}
 use Rattle.tera_code.specs.declared.instruction.Instruction.TheVariants as instruction
-use Rattle.tera_code.specs.Asked.{started_loop, ended_loop, is_next_turn}
+use Rattle.tera_code.specs.InstructionParts.{started_loop, ended_loop, is_next_turn}
 use Rattle.tera_code.specs.Printing.{puts, puts_up_to, closes_at, printing, printing_loop_at}
 
 pub puts_by : (b : Bool) (o : Option ℕ) (end : ℕ) → cond b o None ≡ Some end → (b ≡ true) × (o ≡ Some end)

@@ -3,8 +3,8 @@
 use Rattle.std.specs.Prelude.{List, Option, None, option_map}
 use Rattle.tera_errors.specs.Site as site
 use Rattle.tera_errors.specs.declared.span.Span.{Span}
-use Rattle.tera_built_ins.specs.declared.filter.BuiltInFilter.{BuiltInFilter}
-use Rattle.tera_built_ins.specs.declared.test.BuiltInTest.{BuiltInTest}
+use Rattle.tera_built_ins.specs.declared.built_in_filter.BuiltInFilter.{BuiltInFilter}
+use Rattle.tera_built_ins.specs.declared.built_in_test.BuiltInTest.{BuiltInTest}
 use Rattle.tera_built_ins.specs.Filters.{filter_named}
 use Rattle.tera_built_ins.specs.TestTable.{test_named}
 use Rattle.tera_code.specs.declared.instruction.Instruction.{Instruction}

@@ -99,7 +99,7 @@ abbrev mutual
   expr_code (Comprehension value key name target condition span) =
       expr_code target ++ comprehension_tail key name (turn_code condition (expr_code value)) span
   expr_code (Super arguments span) =
-      arguments_code arguments ++ instruction.TakeAbove (arguments_length arguments) span ∷ []
+      arguments_code arguments ++ instruction.TakeSuper (arguments_length arguments) span ∷ []
   expr_code (Filter value name arguments span) =
       expr_code value
       ++ (arguments_code arguments

@@ -4,7 +4,7 @@ use Rattle.tera_errors.specs.declared.span.Span.{Span}
 use Rattle.tera_syntax_tree.specs.declared.expression.BinaryOperator.{BinaryOperator}
 use Rattle.tera_values.specs.Val.{int}
 use Rattle.tera_operators.specs.Operators.{is_comparison}
-use Rattle.tera_code.specs.Asked.{applied_operator, loaded_integer}
+use Rattle.tera_code.specs.InstructionParts.{applied_operator, loaded_integer}
 use Rattle.tera_code.specs.declared.comparison.Comparison.{Comparison}
 use Rattle.tera_code.specs.declared.comparison.IntegerComparison.{IntegerComparison}
 use Rattle.tera_code.specs.declared.instruction.Instruction.{Instruction}

@@ -4,7 +4,7 @@ pub mod Listing
 pub mod Code
 pub mod Filling
 pub mod Blocks
-pub mod Asked
+pub mod InstructionParts
 pub mod Printing
 pub mod Settled
 pub mod Called

@@ -16,7 +16,7 @@ use Rattle.tera_code.specs.declared.packed.LoopNames.{LoopNames}
 use Rattle.tera_code.specs.declared.packed.Tables.{Tables}
 
 -- what instructions name by number
-pub record Shelf : Type 0 where
+pub record TableContents : Type 0 where
   pub pool : Text
   pub names : List Text
   pub constants : List Val
@@ -29,8 +29,8 @@ pub record Shelf : Type 0 where
   -- the names of what is taken and stands elsewhere
   pub targets : List Text
 
-abbrev pub shelf_of : Tables → Shelf
-shelf_of t =
+abbrev pub tables_of : Tables → TableContents
+tables_of t =
     record {
       pool = string_bytes t.pool;
       names = t.names.items;
@@ -43,30 +43,30 @@ shelf_of t =
       targets = t.targets.items;
     }
 
-abbrev pub span_at : Shelf → ℕ → Span
+abbrev pub span_at : TableContents → ℕ → Span
 span_at s i = get_or s.spans i (record { start = 0; end = 0 })
 
-abbrev pub name_at : Shelf → ℕ → Text
+abbrev pub name_at : TableContents → ℕ → Text
 name_at s i = get_or s.names i []
 
-abbrev pub loop_at : Shelf → ℕ → LoopNames
+abbrev pub loop_at : TableContents → ℕ → LoopNames
 loop_at s i = get_or s.loops i (record { key = None; name = [] })
 
-abbrev pub call_at : Shelf → ℕ → Text × List Text
+abbrev pub call_at : TableContents → ℕ → Text × List Text
 call_at s i = get_or s.calls i ([], [])
 
-abbrev pub target_at : Shelf → ℕ → Text
+abbrev pub target_at : TableContents → ℕ → Text
 target_at s i = get_or s.targets i []
 
 -- the constant that it loads, where it loads one
-abbrev pub constant_of : Shelf → Packed → Val
+abbrev pub constant_of : TableContents → Packed → Val
 constant_of s (packed.LoadBool flag span) = val.bool flag
 constant_of s (packed.LoadInt span number) = val.int number
 constant_of s (packed.LoadConst constant span) = get_or s.constants constant val.none
 constant_of s other = val.none
 
 -- the instruction that is meant
-abbrev pub unpacked : Shelf → Packed → Instruction
+abbrev pub unpacked : TableContents → Packed → Instruction
 unpacked s (packed.WriteText start end) =
     instruction.WriteText (take (end - start) (drop start s.pool))
 unpacked s packed.WriteTop = instruction.WriteTop
@@ -110,7 +110,7 @@ unpacked s (packed.TakeInclude target span) =
 unpacked s (packed.TakeComponent has_body target keys span) =
     instruction.TakeComponent (target_at s target) (get_or s.keys keys []) has_body
     (span_at s span)
-unpacked s (packed.TakeAbove span arguments) = instruction.TakeAbove arguments (span_at s span)
+unpacked s (packed.TakeSuper span arguments) = instruction.TakeSuper arguments (span_at s span)
 unpacked s (packed.ApplyFilter call span) =
     instruction.ApplyFilter (call_at s call).0 (call_at s call).1 (span_at s span)
 unpacked s (packed.ApplyTest call span) =
@@ -119,7 +119,7 @@ unpacked s (packed.CallFunction call span) =
     instruction.CallFunction (call_at s call).0 (call_at s call).1 (span_at s span)
 
 -- what it names is there
-abbrev pub Within : Shelf → Packed → Type 0
+abbrev pub Within : TableContents → Packed → Type 0
 Within s (packed.WriteText start end) =
     (start ≤ end) × (IsCharBoundary s.pool start × IsCharBoundary s.pool end)
 Within s packed.WriteTop = Unit {0}
@@ -161,7 +161,7 @@ Within s (packed.TakeBlock name span) = (name < length s.names) × (span < lengt
 Within s (packed.TakeInclude target span) = (target < length s.targets) × (span < length s.spans)
 Within s (packed.TakeComponent has_body target keys span) =
     (target < length s.targets) × (keys < length s.keys) × (span < length s.spans)
-Within s (packed.TakeAbove span arguments) = span < length s.spans
+Within s (packed.TakeSuper span arguments) = span < length s.spans
 Within s (packed.ApplyFilter call span) = (call < length s.calls) × (span < length s.spans)
 Within s (packed.ApplyTest call span) = (call < length s.calls) × (span < length s.spans)
 Within s (packed.CallFunction call span) = (call < length s.calls) × (span < length s.spans)
@@ -171,7 +171,7 @@ abbrev pub Longer : {X : Type 0} → List X → List X → Type 0
 Longer xs ys = ys ≡ xs ++ drop (length xs) ys
 
 -- nothing that was named by number is lost
-abbrev pub Grows : Shelf → Shelf → Type 0
+abbrev pub Grows : TableContents → TableContents → Type 0
 Grows s t =
     Longer s.pool t.pool
     × (Longer s.names t.names
@@ -187,5 +187,5 @@ abbrev pub IsAt : {X : Type 0} → List X → ℕ → X → Type 0
 IsAt xs i x = (i < length xs) × (get_or xs i x ≡ x)
 
 -- this is meant, and all that is named is there
-abbrev pub Packs : Shelf → Packed → Instruction → Type 0
+abbrev pub Packs : TableContents → Packed → Instruction → Type 0
 Packs s p i = Within s p × (unpacked s p ≡ i)

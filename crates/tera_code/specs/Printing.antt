@@ -4,7 +4,7 @@ use Rattle.tera_errors.specs.declared.span.Span.{Span}
 use Rattle.tera_errors.specs.Site as site
 use Rattle.tera_values.specs.Naming.{counter_of}
 use Rattle.tera_code.specs.declared.instruction.Instruction.{Instruction}
-use Rattle.tera_code.specs.Asked.{written_text, written_name, started_loop, ended_loop, is_next_turn}
+use Rattle.tera_code.specs.InstructionParts.{written_text, written_name, started_loop, ended_loop, is_next_turn}
 
 -- whether it is this name
 abbrev pub is_named : site.Name → Option (site.Name × Span) → Bool

@@ -1,9 +1,9 @@
 -- What is noted in packed instructions of those behind them, once for all who run them.
 use Rattle.std.specs.Prelude.{◌≡◌, ℕ, ◌<◌, Bool, true, false, cond, List, length, map, get_or, Option, Some, None}
 use Rattle.std.specs.List.{All}
-use Rattle.tera_code.specs.Asked.{reads_on_at}
+use Rattle.tera_code.specs.InstructionParts.{reads_on_at}
 use Rattle.tera_code.specs.Printing.{printing_loop_at}
-use Rattle.tera_code.specs.Packed.{Shelf, Within, unpacked}
+use Rattle.tera_code.specs.Packed.{TableContents, Within, unpacked}
 use Rattle.tera_code.specs.declared.instruction.Instruction.{Instruction}
 use Rattle.tera_code.specs.declared.packed.Packed.{Packed}
 use Rattle.tera_code.specs.declared.packed.Packed.TheVariants as packed
@@ -31,6 +31,6 @@ pub record Notes (code : List Instruction) (at : ℕ) (p : Packed) : Type 0 wher
   pub prints : printing_size p ≡ printing_loop_at code at
 
 -- all that these name is there, and what each of them notes is so
-pub record Settled (s : Shelf) (ps : List Packed) : Type 0 where
+pub record Settled (s : TableContents) (ps : List Packed) : Type 0 where
   pub within : All (Within s) ps
   pub notes : (at : ℕ) → at < length ps → Notes (map (unpacked s) ps) at (get_or ps at (packed.WriteText 0 0))

@@ -4,9 +4,9 @@ ghost use Rattle.tera_code.specs.Blocks.{block_of, block_listings};
 ghost use Rattle.tera_syntax_tree.specs.Prelude.{blocks, node_blocks, node_of, nodes_of};
 
 use crate::chunk::Chunk;
-use crate::nodes::compiled;
+use crate::nodes::compile_body;
 use std::alloc::{AllocError, Global};
-use tera_errors::lacking;
+use tera_errors::alloc_result;
 use tera_syntax_tree::Node;
 use tera_values::Name;
 
@@ -84,8 +84,8 @@ fn put(
         ++ block_listings file.now ((name.now, nodes_of body.now) ∷ [])) }
 {
     found.push(BlockCode {
-        name: lacking(Name::new(alloc, name))?,
-        code: compiled(alloc, file, body)?,
+        name: alloc_result(Name::new(alloc, name))?,
+        code: compile_body(alloc, file, body)?,
     })?;
     Ok(())
 }

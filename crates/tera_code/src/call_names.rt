@@ -23,8 +23,8 @@ impl CallNames {
         ensures name { result.name ≡ name }
         ensures arguments { result.arguments ≡ arguments }
     {
-        let filter = BuiltInFilter::named(name.as_str());
-        let test = BuiltInTest::named(name.as_str());
+        let filter = BuiltInFilter::by_name(name.as_str());
+        let test = BuiltInTest::by_name(name.as_str());
         CallNames {
             name,
             arguments,

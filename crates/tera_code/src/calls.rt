@@ -8,23 +8,23 @@ ghost use Rattle.tera_syntax_tree.specs.Prelude.{Super, MoreFilters, NoFilters, 
 use crate::call_kind::CallKind;
 use crate::compiler::Compiler;
 use crate::instruction::Instruction;
-use crate::lent_parts::{Keys, LentName, Names};
-use crate::single_forms::keys;
+use crate::instruction_parts::{Keys, LentName, Names};
+use crate::single_instructions::keys;
 use std::alloc::{AllocError, Global};
-use tera_errors::lacking;
-use tera_syntax_tree::{Applied, Argument, Called, ComponentTag, Entry, SectionFilter};
+use tera_errors::alloc_result;
+use tera_syntax_tree::{Applied, Argument, FunctionCall, ComponentTag, EntryExpression, SectionFilter};
 use tera_values::{Name, Span};
 
 impl Compiler {
     // `super`
     #[cycle(expressions)]
     #[inline(never)]
-    pub(crate) fn above(&mut self, arguments: &[Argument], span: Span) -> Result<(), AllocError>
+    pub(crate) fn super_call(&mut self, arguments: &[Argument], span: Span) -> Result<(), AllocError>
         ensures ok { OnOk result (self.new ≡ lengthened self.old
             (expr_code (Super (arguments_of arguments.now) span))) }
     {
         self.arguments(arguments)?;
-        self.emit(Instruction::TakeAbove {
+        self.emit(Instruction::TakeSuper {
             arguments: arguments.len(),
             span,
         })
@@ -33,7 +33,7 @@ impl Compiler {
     // A value, and what a filter or a test makes of it.
     #[cycle(expressions)]
     #[inline(never)]
-    pub(crate) fn applied(
+    pub(crate) fn application(
         &mut self,
         kind: CallKind,
         applied: &Applied,
@@ -50,7 +50,7 @@ impl Compiler {
 
     #[cycle(expressions)]
     #[inline(never)]
-    pub(crate) fn called(&mut self, called: &Called, span: Span) -> Result<(), AllocError>
+    pub(crate) fn function_call(&mut self, called: &FunctionCall, span: Span) -> Result<(), AllocError>
         ensures ok { OnOk result (self.new ≡ lengthened self.old
             (expr_code (called_of called.now span))) }
     {
@@ -122,7 +122,7 @@ impl Compiler {
     pub(crate) fn take_component(
         &mut self,
         name: &str,
-        attributes: &[Entry],
+        attributes: &[EntryExpression],
         has_body: bool,
         span: Span,
     ) -> Result<(), AllocError>
@@ -146,7 +146,7 @@ fn argument_names(alloc: Global, arguments: &[Argument]) -> Result<Vec<Name>, Al
 {
     let mut names = Vec::new(alloc);
     for argument in arguments {
-        names.push(lacking(Name::new(alloc, argument.name))?)?;
+        names.push(alloc_result(Name::new(alloc, argument.name))?)?;
     }
     Ok(names)
 }

@@ -6,7 +6,7 @@ ghost use Rattle.tera_syntax_tree.specs.Prelude.{Set, first_span, expr_of, filte
 
 use crate::compiler::Compiler;
 use crate::instruction::Instruction;
-use crate::lent_parts::LentName;
+use crate::instruction_parts::LentName;
 use std::alloc::AllocError;
 use tera_syntax_tree::{Expression, Node, SectionFilter};
 use tera_values::Span;
@@ -40,14 +40,14 @@ impl Compiler {
             (nodes_code (nodes_of body.now.items) (suc drops)))) }
     {
         let filters = filters.as_slice();
-        self.captured(body, first_span(filters), drops)?;
+        self.capture(body, first_span(filters), drops)?;
         self.filters(filters)
     }
 
     // The text that the body puts out, on top of the operands.
     #[cycle(nodes)]
     #[inline(never)]
-    pub(crate) fn captured(
+    pub(crate) fn capture(
         &mut self,
         body: &Vec<Node>,
         span: Span,
@@ -58,7 +58,7 @@ impl Compiler {
             (nodes_code (nodes_of body.now.items) (suc drops)) span)) }
     {
         self.emit(Instruction::StartCapture)?;
-        self.body(body, one_more(drops)?)?;
+        self.body(body, plus_one(drops)?)?;
         self.emit(Instruction::EndCapture(span))
     }
 
@@ -75,7 +75,7 @@ impl Compiler {
     }
 }
 
-fn one_more(drops: usize) -> Result<usize, AllocError>
+fn plus_one(drops: usize) -> Result<usize, AllocError>
     ensures ok { IfOk result (λ n. n ≡ suc drops) }
 {
     match drops.checked_add(1) {

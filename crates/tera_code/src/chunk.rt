@@ -2,10 +2,10 @@
 ghost use Rattle.std.specs.Prelude.{◌≡◌, ◌+◌, ◌<◌, ◌^◌, cond, false, length, map, slice_get, IfSome, IsTrue, MatchOption, Some, None, option_map, option_and_then, unwrap_or};
 ghost use Rattle.std.specs.List.{All};
 ghost use Rattle.tera_code.specs.Integers.{with_integer, loads_integer_at, integer_comparison_at};
-ghost use Rattle.tera_code.specs.Asked.{loaded_attribute, applied_operator, is_write_top, jump_length_if_false, Compares, comparison_at, reads_on_at};
+ghost use Rattle.tera_code.specs.InstructionParts.{loaded_attribute, applied_operator, is_write_top, jump_length_if_false, Compares, comparison_at, reads_on_at};
 ghost use Rattle.tera_code.specs.Called.{callee_of, called_by};
 ghost use Rattle.tera_code.specs.declared.instruction.Instruction.TheVariants as instruction;
-ghost use Rattle.tera_code.specs.Packed.{Within, shelf_of, unpacked};
+ghost use Rattle.tera_code.specs.Packed.{Within, tables_of, unpacked};
 ghost use Rattle.tera_code.specs.Printing.{printing_loop_at};
 ghost use Rattle.tera_code.specs.Targets.{target_in, target_of};
 
@@ -13,7 +13,7 @@ use crate::callee::Callee;
 use crate::comparison::{Comparison, IntegerComparison};
 use crate::lent_code::LentCode;
 use crate::lent_instruction::LentInstruction;
-use crate::lent_parts::Text;
+use crate::instruction_parts::LentText;
 use crate::packed::{Packed, Tables};
 use crate::settling::settle;
 use crate::steps::Steps;
@@ -35,7 +35,7 @@ pub struct Chunk {
 impl Model for Chunk {
     ghost use Rattle.std.specs.Prelude.{map};
     ghost use Rattle.tera_code.specs.Listing.{Listing};
-    ghost use Rattle.tera_code.specs.Packed.{shelf_of, unpacked};
+    ghost use Rattle.tera_code.specs.Packed.{tables_of, unpacked};
     ghost use Rattle.tera_code.specs.Settled.{Settled};
     ghost use Rattle.std.specs.Coded.{codes};
     ghost use Rattle.tera_values.specs.Coding.{val_coding};
@@ -46,11 +46,11 @@ impl Model for Chunk {
 
     ghost view = { λ c. record {
       file = c.file;
-      code = map (unpacked (shelf_of c.tables))
+      code = map (unpacked (tables_of c.tables))
           c.code.items;
     } };
 
-    ghost invariant = { λ c. Settled (shelf_of c.tables) c.code.items };
+    ghost invariant = { λ c. Settled (tables_of c.tables) c.code.items };
 }
 
 impl Chunk {
@@ -58,10 +58,10 @@ impl Chunk {
 
     // The body of these instructions, in which nothing has to be noted yet.
     pub(crate) fn new(file: Name, tables: Tables, code: Vec<Packed>) -> Chunk
-        requires { All (Within (shelf_of tables)) code.items }
+        requires { All (Within (tables_of tables)) code.items }
         ensures { result ≡ record {
           file = file;
-          code = map (unpacked (shelf_of tables)) code.items;
+          code = map (unpacked (tables_of tables)) code.items;
         } }
     {
         let mut code = code;
@@ -95,7 +95,7 @@ impl Chunk {
         ensures count { MatchOption result (steps.new ≡ steps.old)
             (λ _. steps.new ≡ steps.old + 1) }
     {
-        counted(self.lent(at), steps)
+        tick_if_some(self.lend(at), steps)
     }
 
     /// The attribute that the instruction at this position takes, which is counted where it takes one.
@@ -104,7 +104,7 @@ impl Chunk {
         &self,
         at: usize,
         steps: &mut Steps<T>,
-    ) -> Option<(Text<'_>, bool, Span)>
+    ) -> Option<(LentText<'_>, bool, Span)>
         ensures means { IfSome result (λ p. slice_get self.now.code at
             ≡ Some (instruction.LoadAttribute p.0 p.1 p.2)) }
         ensures exact { option_map (λ p. (p.0, p.1, p.2)) result
@@ -112,7 +112,7 @@ impl Chunk {
         ensures count { MatchOption result (steps.new ≡ steps.old)
             (λ _. steps.new ≡ steps.old + 1) }
     {
-        counted(self.lent(at)?.as_attribute(), steps)
+        tick_if_some(self.lend(at)?.as_attribute(), steps)
     }
 
     /// Whether the instruction at this position puts out the topmost operand. It is counted where it does.
@@ -123,7 +123,7 @@ impl Chunk {
             ≡ unwrap_or (option_map is_write_top (slice_get self.now.code at)) false }
         ensures count { steps.new ≡ cond result (steps.old + 1) steps.old }
     {
-        match self.lent(at) {
+        match self.lend(at) {
             Some(instruction) if instruction.is_write_top() => {
                 steps.tick();
                 true
@@ -143,7 +143,7 @@ impl Chunk {
         ensures count { MatchOption result (steps.new ≡ steps.old)
             (λ _. steps.new ≡ steps.old + 1) }
     {
-        counted(self.lent(at)?.as_pop_jump_if_false(), steps)
+        tick_if_some(self.lend(at)?.as_pop_jump_if_false(), steps)
     }
 
     /// The comparison of the topmost operand with a constant that the two instructions at this position make, which are counted where
@@ -184,7 +184,7 @@ impl Chunk {
     pub fn loads_integer_at(&self, at: usize) -> bool
         ensures { result ≡ loads_integer_at self.now.code at }
     {
-        match self.lent(at) {
+        match self.lend(at) {
             Some(instruction) => instruction.as_integer().is_some(),
             None => false,
         }
@@ -204,7 +204,7 @@ impl Chunk {
         ensures count { MatchOption result (steps.new ≡ steps.old)
             (λ _. steps.new ≡ steps.old + 1) }
     {
-        counted(self.lent(at)?.as_binary(), steps)
+        tick_if_some(self.lend(at)?.as_binary(), steps)
     }
 
     /// Whether the instruction at this position loads a name that is used up behind it: an attribute is taken of it, it is put out or
@@ -244,7 +244,7 @@ impl Chunk {
         ensures { option_map callee_of result
             ≡ option_and_then called_by (slice_get self.now.code position) }
     {
-        self.lent(position)?.callee()
+        self.lend(position)?.callee()
     }
 
     /// What the instruction at this position takes that stands elsewhere; none where it takes nothing, or where there is none. The
@@ -253,17 +253,17 @@ impl Chunk {
         ensures { option_map target_of result
             ≡ option_and_then target_in (slice_get self.now.code position) }
     {
-        self.lent(position)?.target()
+        self.lend(position)?.target()
     }
 
     // The instruction at this position, which is not counted.
     #[inline(always)]
-    pub(crate) fn lent(&self, at: usize) -> Option<LentInstruction<'_>>
+    pub(crate) fn lend(&self, at: usize) -> Option<LentInstruction<'_>>
         ensures found { MatchOption result (slice_get self.now.code at ≡ None)
             (λ i. slice_get self.now.code at ≡ Some i) }
         ensures small { IfSome result (λ _. length self.now.code < 2 ^ 64) }
     {
-        self.instructions().lent(at)
+        self.instructions().lend(at)
     }
 
     // All of them, none of which is counted.
@@ -277,7 +277,7 @@ impl Chunk {
 
 // What an instruction is asked for. It is counted where it is told.
 #[inline(always)]
-fn counted<A: Drop, T: Tally>(told: Option<A>, steps: &mut Steps<T>) -> Option<A>
+fn tick_if_some<A: Drop, T: Tally>(told: Option<A>, steps: &mut Steps<T>) -> Option<A>
     ensures same { result ≡ told }
     ensures count { MatchOption result (steps.new ≡ steps.old)
         (λ _. steps.new ≡ steps.old + 1) }

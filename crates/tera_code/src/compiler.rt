@@ -10,20 +10,20 @@ use crate::chunk::Chunk;
 use crate::constant::Constant;
 use crate::draft::Draft;
 use crate::instruction::Instruction;
-use crate::room::Room;
-use crate::seen::Seen;
+use crate::size_guess::SizeGuess;
+use crate::name_cache::NameCache;
 use std::alloc::{AllocError, Global};
 use std::marker::Model;
-use tera_errors::lacking;
+use tera_errors::alloc_result;
 use tera_syntax_tree::Item;
-use tera_values::{Name, Sought, Span, Value};
+use tera_values::{Name, NameRef, Span, Value};
 
 /// Writes the instructions of one body. A contract sees those that are written so far.
 #[derive(Drop)]
 pub struct Compiler {
     alloc: Global,
     draft: Draft,
-    seen: Seen,
+    seen: NameCache,
 }
 
 impl Model for Compiler {
@@ -45,18 +45,18 @@ impl Compiler {
     pub fn new(alloc: Global, file: &str) -> Result<Compiler, AllocError>
         ensures { IfOk result (λ c. c ≡ record { file = file.now; code = [] }) }
     {
-        Ok(Compiler::of(alloc, lacking(Name::new(alloc, file))?))
+        Ok(Compiler::with_file(alloc, alloc_result(Name::new(alloc, file))?))
     }
 
     // The same where the name is there. A compiler is large, so that this makes it where it stays.
     #[inline(always)]
-    pub(crate) fn of(alloc: Global, file: Name) -> Compiler
+    pub(crate) fn with_file(alloc: Global, file: Name) -> Compiler
         ensures { result ≡ record { file = file; code = [] } }
     {
         Compiler {
             alloc,
             draft: Draft::new(alloc, file),
-            seen: Seen::new(),
+            seen: NameCache::new(),
         }
     }
 
@@ -76,11 +76,11 @@ impl Compiler {
     pub(crate) fn name(&self, name: &str) -> Result<Name, AllocError>
         ensures { IfOk result (λ n. n ≡ name.now) }
     {
-        lacking(Name::new(self.alloc, name))
+        alloc_result(Name::new(self.alloc, name))
     }
 
     // So that what is written moves less often as it grows.
-    pub(crate) fn make_room(&mut self, room: Room) -> Result<(), AllocError>
+    pub(crate) fn make_room(&mut self, room: SizeGuess) -> Result<(), AllocError>
         ensures same { self.new ≡ self.old }
     {
         self.draft.make_room(room)
@@ -107,7 +107,7 @@ impl Compiler {
             (self.new ≡ lengthened self.old (instruction.WriteName name.now span ∷ [])) }
     {
         self.draft
-            .emit_name(self.alloc, &mut self.seen, Sought::new(name), span)
+            .emit_name(self.alloc, &mut self.seen, NameRef::new(name), span)
     }
 
     // The array of these items, which are loaded already.
@@ -131,7 +131,7 @@ impl Compiler {
     }
 
     // How many instructions stand behind the position.
-    pub(crate) fn behind(&self, position: usize) -> usize
+    pub(crate) fn count_after(&self, position: usize) -> usize
         requires { position < length self.now.code }
         ensures { result ≡ behind position self.now }
     {
@@ -166,7 +166,7 @@ impl Compiler {
     {
         match i64::try_from(number) {
             Ok(number) => self.constant(Constant::from_int(number), span),
-            Err(_) => self.constant(Constant::shared(&Value::from_int(number)), span),
+            Err(_) => self.constant(Constant::from_shared(&Value::from_int(number)), span),
         }
     }
 }

@@ -76,7 +76,7 @@ impl<'a> Constant<'a> {
     }
 
     /// The value itself, which is not copied.
-    pub fn shared(value: &'a Value) -> Constant<'a>
+    pub fn from_shared(value: &'a Value) -> Constant<'a>
         ensures { result ≡ value.now }
     {
         Constant {
@@ -86,7 +86,7 @@ impl<'a> Constant<'a> {
 
     /// The value where it lies beside the code; none where it stands in the instruction itself, so that it takes no memory.
     #[inline(always)]
-    pub fn lent(&self) -> Option<&'a Value>
+    pub fn shared_value(&self) -> Option<&'a Value>
         ensures value { IfSome result (λ value. value.now ≡ self.now) }
         ensures small { IfNone result (IsScalar self.now) }
     {

@@ -8,12 +8,12 @@ ghost use Rattle.tera_syntax_tree.specs.Prelude.{items_of};
 use crate::chunk::Chunk;
 use crate::instruction::Instruction;
 use crate::packed::{Packed, Tables};
-use crate::room::Room;
-use crate::seen::Seen;
+use crate::size_guess::SizeGuess;
+use crate::name_cache::NameCache;
 use std::alloc::{AllocError, Global};
 use std::marker::Model;
 use tera_syntax_tree::Item;
-use tera_values::{Name, Sought, Span};
+use tera_values::{Name, NameRef, Span};
 
 /// The instructions of a body as far as they are written, and the name of the template in whose text it stands. Nothing is noted yet in
 /// one of those behind it, which may change.
@@ -28,7 +28,7 @@ impl Model for Draft {
     ghost use Rattle.std.specs.Prelude.{map};
     ghost use Rattle.std.specs.List.{All};
     ghost use Rattle.tera_code.specs.Listing.{Listing};
-    ghost use Rattle.tera_code.specs.Packed.{Within, shelf_of, unpacked};
+    ghost use Rattle.tera_code.specs.Packed.{Within, tables_of, unpacked};
     ghost use Rattle.std.specs.Coded.{codes};
     ghost use Rattle.tera_values.specs.Coding.{val_coding};
 
@@ -38,11 +38,11 @@ impl Model for Draft {
 
     ghost view = { λ d. record {
       file = d.file;
-      code = map (unpacked (shelf_of d.tables))
+      code = map (unpacked (tables_of d.tables))
           d.code.items;
     } };
 
-    ghost invariant = { λ d. All (Within (shelf_of d.tables)) d.code.items };
+    ghost invariant = { λ d. All (Within (tables_of d.tables)) d.code.items };
 }
 
 impl Draft {
@@ -74,7 +74,7 @@ impl Draft {
         self.code.len()
     }
 
-    pub(crate) fn make_room(&mut self, room: Room) -> Result<(), AllocError>
+    pub(crate) fn make_room(&mut self, room: SizeGuess) -> Result<(), AllocError>
         ensures same { self.new ≡ self.old }
     {
         self.code.reserve(room.instructions)?;
@@ -86,7 +86,7 @@ impl Draft {
     pub(crate) fn emit(
         &mut self,
         alloc: Global,
-        seen: &mut Seen,
+        seen: &mut NameCache,
         instruction: Instruction<'_>,
     ) -> Result<(), AllocError>
         ensures { OnOk result (self.new ≡ lengthened self.old (instruction.entry ∷ [])) }
@@ -114,8 +114,8 @@ impl Draft {
     pub(crate) fn emit_name(
         &mut self,
         alloc: Global,
-        seen: &mut Seen,
-        name: Sought<'_>,
+        seen: &mut NameCache,
+        name: NameRef<'_>,
         span: Span,
     ) -> Result<(), AllocError>
         ensures { OnOk result
@@ -141,7 +141,7 @@ impl Draft {
     pub(crate) fn fill(
         &mut self,
         alloc: Global,
-        seen: &mut Seen,
+        seen: &mut NameCache,
         position: usize,
         instruction: Instruction<'_>,
     ) -> Result<(), AllocError>

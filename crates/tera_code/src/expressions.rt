@@ -10,7 +10,7 @@ use crate::constant::Constant;
 use crate::instruction::Instruction;
 use std::alloc::AllocError;
 use tera_syntax_tree::{
-    BinaryOperator, Bounds, Choice, Entry, Expression, Indexed, Item, Operands,
+    BinaryOperator, Bounds, Choice, EntryExpression, Expression, Indexed, Item, Operands,
 };
 use tera_values::Span;
 
@@ -49,23 +49,23 @@ impl Compiler {
                 self.expression(&sliced.target)?;
                 self.slice(&sliced.bounds, *optional, *span)
             }
-            Expression::Not { operand, .. } => self.unary(operand, true),
-            Expression::Negate { operand, .. } => self.unary(operand, false),
+            Expression::Not { operand, .. } => self.unary_operation(operand, true),
+            Expression::Negate { operand, .. } => self.unary_operation(operand, false),
             Expression::Binary {
                 operator,
                 operands,
                 span,
-            } => self.binary(*operator, operands, *span),
-            Expression::And { operands, .. } => self.logical(operands, false),
-            Expression::Or { operands, .. } => self.logical(operands, true),
-            Expression::Ternary { choice, .. } => self.ternary(choice),
+            } => self.binary_operation(*operator, operands, *span),
+            Expression::And { operands, .. } => self.logical_operation(operands, false),
+            Expression::Or { operands, .. } => self.logical_operation(operands, true),
+            Expression::Ternary { choice, .. } => self.choice(choice),
             Expression::Array { items, span } => self.array(items.as_slice(), *span),
             Expression::Map { entries, span } => self.map(entries.as_slice(), *span),
             Expression::Comprehension { collected, span } => self.comprehension(collected, *span),
-            Expression::Super { arguments, span } => self.above(arguments.as_slice(), *span),
-            Expression::Filter { applied, span } => self.applied(CallKind::Filter, applied, *span),
-            Expression::Test { applied, span } => self.applied(CallKind::Test, applied, *span),
-            Expression::Call { called, span } => self.called(called, *span),
+            Expression::Super { arguments, span } => self.super_call(arguments.as_slice(), *span),
+            Expression::Filter { applied, span } => self.application(CallKind::Filter, applied, *span),
+            Expression::Test { applied, span } => self.application(CallKind::Test, applied, *span),
+            Expression::Call { called, span } => self.function_call(called, *span),
             Expression::Component { tag, span } => self.tag(tag, *span),
         }
     }
@@ -89,16 +89,16 @@ impl Compiler {
             ++ (bound_code (optional_of bounds.now.step)
             ++ instruction.Slice optional span ∷ [])))) }
     {
-        self.bound(&bounds.start)?;
-        self.bound(&bounds.end)?;
-        self.bound(&bounds.step)?;
+        self.slice_bound(&bounds.start)?;
+        self.slice_bound(&bounds.end)?;
+        self.slice_bound(&bounds.step)?;
         self.emit(Instruction::Slice { optional, span })
     }
 
     // The operand, and what turns its truth value or its sign around.
     #[cycle(expressions)]
     #[inline(never)]
-    fn unary(&mut self, operand: &Expression, is_not: bool) -> Result<(), AllocError>
+    fn unary_operation(&mut self, operand: &Expression, is_not: bool) -> Result<(), AllocError>
         ensures ok { (span : Span) → OnOk result (self.new ≡ lengthened self.old (expr_code
             (cond is_not (Not (expr_of operand.now) span) (Negate (expr_of operand.now) span)))) }
     {
@@ -112,7 +112,7 @@ impl Compiler {
 
     #[cycle(expressions)]
     #[inline(never)]
-    fn binary(
+    fn binary_operation(
         &mut self,
         operator: BinaryOperator,
         operands: &Operands,
@@ -129,7 +129,7 @@ impl Compiler {
     // The right operand is passed by a jump where the left one decides: a truthy one of `or`, a falsy one of `and`.
     #[cycle(expressions)]
     #[inline(never)]
-    fn logical(&mut self, operands: &Operands, is_or: bool) -> Result<(), AllocError>
+    fn logical_operation(&mut self, operands: &Operands, is_or: bool) -> Result<(), AllocError>
         ensures ok { (span : Span) → OnOk result (self.new ≡ lengthened self.old (expr_code
             (cond is_or (Or (expr_of operands.now.left) (expr_of operands.now.right) span)
             (And (expr_of operands.now.left) (expr_of operands.now.right) span)))) }
@@ -137,7 +137,7 @@ impl Compiler {
         self.expression(&operands.left)?;
         let position = self.keep_position()?;
         self.expression(&operands.right)?;
-        let count = self.behind(position);
+        let count = self.count_after(position);
         if is_or {
             self.fill(position, Instruction::JumpIfTrueOrPop(count))
         } else {
@@ -148,7 +148,7 @@ impl Compiler {
     // The value that is not chosen is passed by a jump.
     #[cycle(expressions)]
     #[inline(never)]
-    fn ternary(&mut self, choice: &Choice) -> Result<(), AllocError>
+    fn choice(&mut self, choice: &Choice) -> Result<(), AllocError>
         ensures ok { (span : Span) → OnOk result (self.new ≡ lengthened self.old (expr_code
             (Ternary (expr_of choice.now.value) (expr_of choice.now.condition)
             (expr_of choice.now.other) span))) }
@@ -158,7 +158,7 @@ impl Compiler {
         self.expression(&choice.value)?;
         let position = self.divide(position)?;
         self.expression(&choice.other)?;
-        self.fill(position, Instruction::Jump(self.behind(position)))
+        self.fill(position, Instruction::Jump(self.count_after(position)))
     }
 
     #[cycle(expressions)]
@@ -175,7 +175,7 @@ impl Compiler {
 
     #[cycle(expressions)]
     #[inline(never)]
-    fn map(&mut self, entries: &[Entry], span: Span) -> Result<(), AllocError>
+    fn map(&mut self, entries: &[EntryExpression], span: Span) -> Result<(), AllocError>
         ensures ok { OnOk result (self.new ≡ lengthened self.old
             (expr_code (Map (entries_of entries.now) span))) }
     {
@@ -184,7 +184,7 @@ impl Compiler {
     }
 
     #[cycle(expressions)]
-    fn bound(&mut self, bound: &Option<Box<Expression>>) -> Result<(), AllocError>
+    fn slice_bound(&mut self, bound: &Option<Box<Expression>>) -> Result<(), AllocError>
         ensures ok { OnOk result (self.new ≡ lengthened self.old
             (bound_code (optional_of bound.now))) }
     {
@@ -195,7 +195,7 @@ impl Compiler {
     }
 
     #[cycle(expressions)]
-    pub(crate) fn entries(&mut self, entries: &[Entry]) -> Result<(), AllocError>
+    pub(crate) fn entries(&mut self, entries: &[EntryExpression]) -> Result<(), AllocError>
         ensures ok { OnOk result (self.new ≡ lengthened self.old
             (entries_code (entries_of entries.now))) }
     {

@@ -4,9 +4,9 @@ ghost use Rattle.tera_code.specs.Calls.{call_of};
 
 use crate::call_kind::CallKind;
 use crate::constant::Constant;
-use crate::lent_parts::{Keys, LentName, Names, Spreads, Text};
+use crate::instruction_parts::{Keys, LentName, Names, Spreads, LentText};
 use tera_syntax_tree::BinaryOperator;
-use tera_values::{Sought, Span};
+use tera_values::{NameRef, Span};
 
 /// One instruction, as a chunk hands it out: it borrows texts, names, constants and lists from the chunk, and no part of a
 /// tree. A jump says how many instructions it passes; a span is where a fault of the instruction, or of the value that it
@@ -14,18 +14,18 @@ use tera_values::{Sought, Span};
 #[derive(Drop)]
 pub enum Instruction<'a> {
     /// Puts the text out as it stands.
-    WriteText(Text<'a>),
+    WriteText(LentText<'a>),
     /// Takes the topmost operand and puts it out.
     WriteTop,
     /// Puts the value out that the name stands for, where it lies.
-    WriteName(Sought<'a>, Span),
+    WriteName(NameRef<'a>, Span),
     /// Puts the constant on top of the operands.
     LoadConst(Constant<'a>, Span),
     /// Puts the value that the name stands for on top of the operands.
-    LoadName(Sought<'a>, Span),
+    LoadName(NameRef<'a>, Span),
     /// The attribute of the topmost operand in its place.
     LoadAttribute {
-        name: Text<'a>,
+        name: LentText<'a>,
         optional: bool,
         span: Span,
     },
@@ -108,7 +108,7 @@ pub enum Instruction<'a> {
     },
     /// Drops so many operands, and puts the text that the next template above makes of the block that runs on top of the
     /// operands.
-    TakeAbove {
+    TakeSuper {
         arguments: usize,
         span: Span,
     },

@@ -1,6 +1,6 @@
 // Instructions as they lie, which are looked at where their body is compiled.
 ghost use Rattle.std.specs.Prelude.{◌≡◌, ◌<◌, ◌^◌, length, map, slice_get, IfSome, MatchOption, Some, None};
-ghost use Rattle.tera_code.specs.Asked.{Compares, comparison_at, uses_top_at};
+ghost use Rattle.tera_code.specs.InstructionParts.{Compares, comparison_at, uses_top_at};
 ghost use Rattle.tera_code.specs.Integers.{with_integer, integer_comparison_at};
 
 use crate::comparison::{Comparison, IntegerComparison};
@@ -22,32 +22,32 @@ impl<'a> Model for LentCode<'a> {
     ghost use Rattle.std.specs.Coded.{codes};
     ghost use Rattle.tera_values.specs.Coding.{val_coding};
     ghost use Rattle.tera_code.specs.declared.instruction.Instruction.{Instruction as Datum};
-    ghost use Rattle.tera_code.specs.Packed.{Within, shelf_of, unpacked};
+    ghost use Rattle.tera_code.specs.Packed.{Within, tables_of, unpacked};
 
     ghost Value = { List Datum };
 
     ghost coded = { Prim.hlevel (codes, val_coding) };
 
-    ghost view = { λ l. map (unpacked (shelf_of l.tables.now)) l.code.now };
+    ghost view = { λ l. map (unpacked (tables_of l.tables.now)) l.code.now };
 
-    ghost invariant = { λ l. All (Within (shelf_of l.tables.now)) l.code.now };
+    ghost invariant = { λ l. All (Within (tables_of l.tables.now)) l.code.now };
 }
 
 impl<'a> LentCode<'a> {
     ghost use Rattle.std.specs.List.{All};
-    ghost use Rattle.tera_code.specs.Packed.{Within, shelf_of, unpacked};
+    ghost use Rattle.tera_code.specs.Packed.{Within, tables_of, unpacked};
 
     #[inline(always)]
     pub(crate) fn new(tables: &'a Tables, code: &'a [Packed]) -> LentCode<'a>
-        requires { All (Within (shelf_of tables.now)) code.now }
-        ensures { result ≡ map (unpacked (shelf_of tables.now)) code.now }
+        requires { All (Within (tables_of tables.now)) code.now }
+        ensures { result ≡ map (unpacked (tables_of tables.now)) code.now }
     {
         LentCode { tables, code }
     }
 
     /// The instruction at this position.
     #[inline(always)]
-    pub(crate) fn lent(&self, at: usize) -> Option<LentInstruction<'a>>
+    pub(crate) fn lend(&self, at: usize) -> Option<LentInstruction<'a>>
         ensures found { MatchOption result (slice_get self.now at ≡ None)
             (λ i. slice_get self.now at ≡ Some i) }
         ensures small { IfSome result (λ _. length self.now < 2 ^ 64) }
@@ -64,8 +64,8 @@ impl<'a> LentCode<'a> {
         ensures means { IfSome result (Compares self.now at) }
         ensures exact { result ≡ comparison_at self.now at }
     {
-        let (constant, constant_span) = self.lent(at)?.as_constant()?;
-        let (operator, span) = self.lent(at + 1)?.as_binary()?;
+        let (constant, constant_span) = self.lend(at)?.as_constant()?;
+        let (operator, span) = self.lend(at + 1)?.as_binary()?;
         if !is_comparison(operator) {
             return None;
         }
@@ -83,8 +83,8 @@ impl<'a> LentCode<'a> {
         ensures means { IfSome result (λ c. Compares self.now at (with_integer c)) }
         ensures exact { result ≡ integer_comparison_at self.now at }
     {
-        let (integer, integer_span) = self.lent(at)?.as_integer()?;
-        let (operator, span) = self.lent(at + 1)?.as_binary()?;
+        let (integer, integer_span) = self.lend(at)?.as_integer()?;
+        let (operator, span) = self.lend(at + 1)?.as_binary()?;
         if !is_comparison(operator) {
             return None;
         }
@@ -101,7 +101,7 @@ impl<'a> LentCode<'a> {
     pub(crate) fn uses_top_at(&self, at: usize) -> bool
         ensures { result ≡ uses_top_at self.now at }
     {
-        match self.lent(at) {
+        match self.lend(at) {
             Some(instruction) => instruction.uses_top() || self.comparison(at).is_some(),
             None => false,
         }

@@ -2,11 +2,11 @@
 ghost use Rattle.std.specs.Prelude.{◌≡◌, IfSome, IsTrue, Some, option_map};
 ghost use Rattle.tera_values.specs.Val as val;
 ghost use Rattle.tera_code.specs.declared.instruction.Instruction.TheVariants as instruction;
-ghost use Rattle.tera_code.specs.Asked.{written_text, written_name, loaded_name, loaded_integer};
-ghost use Rattle.tera_code.specs.Asked.{loaded_constant, loaded_attribute, applied_operator, bound_name};
-ghost use Rattle.tera_code.specs.Asked.{started_loop, ended_loop, jump_length, jump_length_if_false};
-ghost use Rattle.tera_code.specs.Asked.{included_template, taken_block, taken_above, taken_component};
-ghost use Rattle.tera_code.specs.Asked.{is_write_top, is_next_turn, uses_top};
+ghost use Rattle.tera_code.specs.InstructionParts.{written_text, written_name, loaded_name, loaded_integer};
+ghost use Rattle.tera_code.specs.InstructionParts.{loaded_constant, loaded_attribute, applied_operator, bound_name};
+ghost use Rattle.tera_code.specs.InstructionParts.{started_loop, ended_loop, jump_length, jump_length_if_false};
+ghost use Rattle.tera_code.specs.InstructionParts.{included_template, taken_block, taken_super, taken_component};
+ghost use Rattle.tera_code.specs.InstructionParts.{is_write_top, is_next_turn, uses_top};
 ghost use Rattle.tera_built_ins.specs.Prelude.{filter_named, test_named};
 ghost use Rattle.tera_code.specs.BuiltIn.{built_in_filter, built_in_test};
 ghost use Rattle.tera_code.specs.Called.{callee_of, called_by};
@@ -17,7 +17,7 @@ ghost use Rattle.tera_code.specs.Targets.{target_in, target_of};
 use crate::callee::Callee;
 use crate::constant::Constant;
 use crate::instruction::Instruction;
-use crate::lent_parts::{Keys, LentName, Names, Text};
+use crate::instruction_parts::{Keys, LentName, Names, LentText};
 use crate::packed::{Packed, Tables};
 use crate::target::Target;
 use std::marker::Model;
@@ -37,24 +37,24 @@ impl<'a> Model for LentInstruction<'a> {
     ghost use Rattle.std.specs.Coded.{codes};
     ghost use Rattle.tera_values.specs.Coding.{val_coding};
     ghost use Rattle.tera_code.specs.declared.instruction.Instruction.{Instruction as Datum};
-    ghost use Rattle.tera_code.specs.Packed.{Within, shelf_of, unpacked};
+    ghost use Rattle.tera_code.specs.Packed.{Within, tables_of, unpacked};
 
     ghost Value = { Datum };
 
     ghost coded = { Prim.hlevel (codes, val_coding) };
 
-    ghost view = { λ l. unpacked (shelf_of l.tables.now) l.packed.now };
+    ghost view = { λ l. unpacked (tables_of l.tables.now) l.packed.now };
 
-    ghost invariant = { λ l. Within (shelf_of l.tables.now) l.packed.now };
+    ghost invariant = { λ l. Within (tables_of l.tables.now) l.packed.now };
 }
 
 impl<'a> LentInstruction<'a> {
-    ghost use Rattle.tera_code.specs.Packed.{Within, shelf_of, unpacked};
+    ghost use Rattle.tera_code.specs.Packed.{Within, tables_of, unpacked};
 
     #[inline(always)]
     pub(crate) fn new(packed: &'a Packed, tables: &'a Tables) -> LentInstruction<'a>
-        requires { Within (shelf_of tables.now) packed.now }
-        ensures { result ≡ unpacked (shelf_of tables.now) packed.now }
+        requires { Within (tables_of tables.now) packed.now }
+        ensures { result ≡ unpacked (tables_of tables.now) packed.now }
     {
         LentInstruction { packed, tables }
     }
@@ -87,7 +87,7 @@ impl<'a> LentInstruction<'a> {
     {
         match *self.packed {
             Packed::WriteName { name, span } => {
-                Some((self.tables.whole_name(name), self.tables.span(span)))
+                Some((self.tables.full_name(name), self.tables.span(span)))
             }
             _ => None,
         }
@@ -101,7 +101,7 @@ impl<'a> LentInstruction<'a> {
     {
         match *self.packed {
             Packed::LoadName { name, span, .. } => {
-                Some((self.tables.whole_name(name), self.tables.span(span)))
+                Some((self.tables.full_name(name), self.tables.span(span)))
             }
             _ => None,
         }
@@ -140,7 +140,7 @@ impl<'a> LentInstruction<'a> {
 
     /// The attribute that it takes, and whether it may be missing.
     #[inline(always)]
-    pub fn as_attribute(&self) -> Option<(Text<'a>, bool, Span)>
+    pub fn as_attribute(&self) -> Option<(LentText<'a>, bool, Span)>
         ensures means { IfSome result (λ p. self.now ≡ instruction.LoadAttribute p.0 p.1 p.2) }
         ensures exact { option_map (λ p. (p.0, p.1, p.2)) result ≡ loaded_attribute self.now }
     {
@@ -177,7 +177,7 @@ impl<'a> LentInstruction<'a> {
         ensures exact { option_map (λ p. (p.0.now, p.1)) result ≡ bound_name self.now }
     {
         match *self.packed {
-            Packed::Store { name, is_global } => Some((self.tables.whole_name(name), is_global)),
+            Packed::Store { name, is_global } => Some((self.tables.full_name(name), is_global)),
             _ => None,
         }
     }
@@ -237,7 +237,7 @@ impl<'a> LentInstruction<'a> {
     {
         match *self.packed {
             Packed::TakeBlock { name, span } => {
-                Some((self.tables.whole_name(name), self.tables.span(span)))
+                Some((self.tables.full_name(name), self.tables.span(span)))
             }
             _ => None,
         }
@@ -245,12 +245,12 @@ impl<'a> LentInstruction<'a> {
 
     /// What it takes of the templates above: how many arguments the call has, and where it stands.
     #[inline(always)]
-    pub fn as_above(&self) -> Option<(usize, Span)>
-        ensures means { IfSome result (λ p. self.now ≡ instruction.TakeAbove p.0 p.1) }
-        ensures exact { option_map (λ p. (p.0, p.1)) result ≡ taken_above self.now }
+    pub fn as_super(&self) -> Option<(usize, Span)>
+        ensures means { IfSome result (λ p. self.now ≡ instruction.TakeSuper p.0 p.1) }
+        ensures exact { option_map (λ p. (p.0, p.1)) result ≡ taken_super self.now }
     {
         match *self.packed {
-            Packed::TakeAbove { span, arguments } => Some((arguments, self.tables.span(span))),
+            Packed::TakeSuper { span, arguments } => Some((arguments, self.tables.span(span))),
             _ => None,
         }
     }
@@ -289,7 +289,7 @@ impl<'a> LentInstruction<'a> {
         match *self.packed {
             Packed::ApplyFilter { call, span } => {
                 let filter = self.tables.built_in_filter(call)?;
-                let name = self.tables.called_name(call);
+                let name = self.tables.lent_callee_name(call);
                 let arguments = self.tables.argument_names(call);
                 Some((filter, name, arguments, self.tables.span(span)))
             }
@@ -307,7 +307,7 @@ impl<'a> LentInstruction<'a> {
         match *self.packed {
             Packed::ApplyTest { call, span } => {
                 let test = self.tables.built_in_test(call)?;
-                let name = self.tables.called_name(call);
+                let name = self.tables.lent_callee_name(call);
                 let arguments = self.tables.argument_names(call);
                 Some((test, name, arguments, self.tables.span(span)))
             }
@@ -420,9 +420,9 @@ impl<'a> LentInstruction<'a> {
         ensures { option_map callee_of result ≡ called_by self.now }
     {
         match *self.packed {
-            Packed::ApplyFilter { call, .. } => Some(Callee::Filter(self.tables.called(call))),
-            Packed::ApplyTest { call, .. } => Some(Callee::Test(self.tables.called(call))),
-            Packed::CallFunction { call, .. } => Some(Callee::Function(self.tables.called(call))),
+            Packed::ApplyFilter { call, .. } => Some(Callee::Filter(self.tables.callee_name(call))),
+            Packed::ApplyTest { call, .. } => Some(Callee::Test(self.tables.callee_name(call))),
+            Packed::CallFunction { call, .. } => Some(Callee::Function(self.tables.callee_name(call))),
             Packed::TakeComponent { target, .. } => {
                 Some(Callee::Component(self.tables.target(target).as_str()))
             }

@@ -6,9 +6,9 @@ ghost use Rattle.tera_syntax_tree.specs.Prelude.{comprehension_of, expr_of, opti
 
 use crate::compiler::Compiler;
 use crate::instruction::Instruction;
-use crate::lent_parts::{LentName, Spreads};
+use crate::instruction_parts::{LentName, Spreads};
 use std::alloc::{AllocError, Global};
-use tera_errors::lacking;
+use tera_errors::alloc_result;
 use tera_syntax_tree::{Collected, Heading};
 use tera_values::{Name, Span};
 
@@ -49,7 +49,7 @@ impl Compiler {
                 let position = self.keep_position()?;
                 self.expression(&collected.value)?;
                 self.emit(Instruction::Keep)?;
-                self.fill(position, Instruction::PopJumpIfFalse(self.behind(position)))
+                self.fill(position, Instruction::PopJumpIfFalse(self.count_after(position)))
             }
         }
     }
@@ -66,7 +66,7 @@ impl Compiler {
     {
         let key = key_name(self.alloc(), &heading.key)?;
         let name = self.name(heading.name)?;
-        let size = self.behind(start);
+        let size = self.count_after(start);
         self.fill(
             start,
             Instruction::StartLoop {
@@ -85,6 +85,6 @@ fn key_name(alloc: Global, key: &Option<&str>) -> Result<Option<Name>, AllocErro
 {
     match key {
         None => Ok(None),
-        Some(key) => Ok(Some(lacking(Name::new(alloc, key))?)),
+        Some(key) => Ok(Some(alloc_result(Name::new(alloc, key))?)),
     }
 }

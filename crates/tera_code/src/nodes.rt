@@ -9,11 +9,11 @@ ghost use Rattle.tera_syntax_tree.specs.Prelude.{expr_of, for_of, node_of, nodes
 use crate::chunk::Chunk;
 use crate::compiler::Compiler;
 use crate::instruction::Instruction;
-use crate::lent_parts::LentName;
-use crate::room::Room;
-use crate::single_forms::is_context;
+use crate::instruction_parts::LentName;
+use crate::size_guess::SizeGuess;
+use crate::single_instructions::is_context;
 use std::alloc::{AllocError, Global};
-use tera_errors::lacking;
+use tera_errors::alloc_result;
 use tera_syntax_tree::{ComponentTag, Expression, Heading, Node};
 use tera_values::{Name, Span};
 
@@ -23,7 +23,7 @@ impl Compiler {
         ensures ok { OnOk result (self.new ≡ lengthened self.old
             (nodes_code (nodes_of nodes.now) 0)) }
     {
-        self.make_room(Room::of(nodes))?;
+        self.make_room(SizeGuess::of_nodes(nodes))?;
         self.nodes(nodes, 0)
     }
 
@@ -78,7 +78,7 @@ impl Compiler {
                 heading,
                 body,
                 other,
-            } => self.turns(body, other, heading, drops),
+            } => self.for_loop(body, other, heading, drops),
             Node::Set {
                 name,
                 value,
@@ -97,11 +97,11 @@ impl Compiler {
                 self.emit(Instruction::WriteTop)
             }
             Node::ComponentCall { tag, body, span } => {
-                self.captured(body, *span, drops)?;
-                self.hand(tag, *span)
+                self.capture(body, *span, drops)?;
+                self.component_call(tag, *span)
             }
-            Node::Block(block) => self.take(block.name, true, block.span),
-            Node::Include { name, span } => self.take(name.as_str(), false, *span),
+            Node::Block(block) => self.body_call(block.name, true, block.span),
+            Node::Include { name, span } => self.body_call(name.as_str(), false, *span),
             Node::Break => self.emit(Instruction::LeaveLoop(drops)),
             Node::Continue => self.emit(Instruction::LeaveTurn(drops)),
         }
@@ -119,13 +119,13 @@ impl Compiler {
         self.body(body, drops)?;
         let position = self.divide(position)?;
         self.body(other, drops)?;
-        self.fill(position, Instruction::Jump(self.behind(position)))
+        self.fill(position, Instruction::Jump(self.count_after(position)))
     }
 
     // The other body runs where there is no turn, and is passed where the loop ends.
     #[cycle(nodes)]
     #[inline(never)]
-    fn turns(
+    fn for_loop(
         &mut self,
         body: &Vec<Node>,
         other: &Vec<Node>,
@@ -141,12 +141,12 @@ impl Compiler {
         self.end_turns(position, heading, true)?;
         let position = self.keep_position()?;
         self.body(other, drops)?;
-        self.fill(position, Instruction::EndLoop(self.behind(position)))
+        self.fill(position, Instruction::EndLoop(self.count_after(position)))
     }
 
     // A block, whose body is compiled by itself, is put out as the template that is rendered has it; an include, as the template to
     // which its name resolves there.
-    fn take(&mut self, name: &str, is_block: bool, span: Span) -> Result<(), AllocError>
+    fn body_call(&mut self, name: &str, is_block: bool, span: Span) -> Result<(), AllocError>
         ensures ok { OnOk result (self.new ≡ lengthened self.old (cond is_block
             (instruction.TakeBlock name.now span) (instruction.TakeInclude name.now span) ∷ [])) }
     {
@@ -161,7 +161,7 @@ impl Compiler {
 
     // The component is handed the text on top of the operands; what it makes of that and of its attributes is put out.
     #[inline(never)]
-    fn hand(&mut self, tag: &ComponentTag, span: Span) -> Result<(), AllocError>
+    fn component_call(&mut self, tag: &ComponentTag, span: Span) -> Result<(), AllocError>
         ensures ok { OnOk result (self.new ≡ lengthened self.old (handed_to tag.now span)) }
     {
         let attributes = tag.attributes.as_slice();
@@ -199,10 +199,10 @@ impl Compiler {
 }
 
 /// The code of these nodes, which stand in the text of the template of this name.
-pub fn compiled(alloc: Global, file: &str, nodes: &[Node]) -> Result<Chunk, AllocError>
+pub fn compile_body(alloc: Global, file: &str, nodes: &[Node]) -> Result<Chunk, AllocError>
     ensures ok { IfOk result (λ c. c ≡ listing_of file.now (nodes_of nodes.now)) }
 {
-    let mut compiler = Compiler::of(alloc, lacking(Name::new(alloc, file))?);
+    let mut compiler = Compiler::with_file(alloc, alloc_result(Name::new(alloc, file))?);
     compiler.compile(nodes)?;
     Ok(compiler.into_chunk())
 }

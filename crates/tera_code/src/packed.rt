@@ -2,7 +2,7 @@
 ghost use Rattle.std.specs.Prelude.{◌≡◌, ◌<◌, ◌-◌, IfOk};
 ghost use Rattle.tera_code.specs.Calls.{call_of};
 ghost use Rattle.tera_code.specs.Code.{spreads_of};
-ghost use Rattle.tera_code.specs.Packed.{Grows, Longer, IsAt, Packs, shelf_of};
+ghost use Rattle.tera_code.specs.Packed.{Grows, Longer, IsAt, Packs, tables_of};
 ghost use Rattle.tera_code.specs.Settled.{has_notes, reads_on, printing_size};
 ghost use Rattle.tera_syntax_tree.specs.Prelude.{items_of, keys_of};
 ghost use Rattle.tera_code.specs.declared.instruction.Instruction.TheVariants as instruction;
@@ -11,13 +11,13 @@ use crate::call_kind::CallKind;
 use crate::call_names::CallNames;
 use crate::constant::{Constant, Kept, small_integer};
 use crate::instruction::Instruction;
-use crate::lent_parts::{Keys, LentName, Names, Spreads};
-use crate::seen::{SLOTS, Seen};
-use crate::single_forms::{add_spreads, copied};
+use crate::instruction_parts::{Keys, LentName, Names, Spreads};
+use crate::name_cache::{SLOTS, NameCache};
+use crate::single_instructions::{add_spreads, copy_key};
 use std::alloc::{AllocError, Global};
-use tera_errors::lacking;
+use tera_errors::alloc_result;
 use tera_syntax_tree::{BinaryOperator, Item, OwnedKey};
-use tera_values::{Name, Sought, Span, Value};
+use tera_values::{Name, NameRef, Span, Value};
 
 /// An instruction that names by number what it needs.
 #[derive(Clone, Copy)]
@@ -124,7 +124,7 @@ pub(crate) enum Packed {
         keys: u32,
         span: u32,
     },
-    TakeAbove {
+    TakeSuper {
         span: u32,
         arguments: usize,
     },
@@ -202,7 +202,7 @@ pub(crate) struct Tables {
 }
 
 /// A number that instructions hold. More than they can hold is want of memory.
-fn small(number: usize) -> Result<u32, AllocError>
+fn to_u32(number: usize) -> Result<u32, AllocError>
     ensures ok { IfOk result (λ n. n ≡ number) }
 {
     match u32::try_from(number) {
@@ -216,7 +216,7 @@ fn number<T: Drop>(items: &mut Vec<T>, item: T) -> Result<u32, AllocError>
     ensures grows { Longer items.old.items items.new.items }
     ensures ok { IfOk result (λ n. IsAt items.new.items n item) }
 {
-    let position = small(items.len())?;
+    let position = to_u32(items.len())?;
     items.push(item)?;
     Ok(position)
 }
@@ -225,8 +225,8 @@ fn number<T: Drop>(items: &mut Vec<T>, item: T) -> Result<u32, AllocError>
 fn name_number(
     alloc: Global,
     names: &mut Vec<Name>,
-    seen: &mut Seen,
-    name: &Sought<'_>,
+    seen: &mut NameCache,
+    name: &NameRef<'_>,
 ) -> Result<u32, AllocError>
     ensures grows { Longer names.old.items names.new.items }
     ensures ok { IfOk result (λ n. IsAt names.new.items n name.now) }
@@ -238,7 +238,7 @@ fn name_number(
             return Ok(position);
         }
     }
-    let position = number(names, lacking(Name::from_sought(alloc, name))?)?;
+    let position = number(names, alloc_result(Name::from_name_ref(alloc, name))?)?;
     seen.positions[slot] = position;
     Ok(position)
 }
@@ -261,7 +261,7 @@ impl Tables {
 
     /// Room for so many spans and bytes of text.
     pub(crate) fn make_room(&mut self, spans: usize, bytes: usize) -> Result<(), AllocError>
-        ensures same { shelf_of self.new ≡ shelf_of self.old }
+        ensures same { tables_of self.new ≡ tables_of self.old }
     {
         self.spans.reserve(spans)?;
         self.pool.reserve(bytes)?;
@@ -270,20 +270,20 @@ impl Tables {
 
     #[inline(always)]
     pub(crate) fn text(&mut self, text: &str) -> Result<Packed, AllocError>
-        ensures grows { Grows (shelf_of self.old) (shelf_of self.new) }
-        ensures ok { IfOk result (λ p. Packs (shelf_of self.new) p
+        ensures grows { Grows (tables_of self.old) (tables_of self.new) }
+        ensures ok { IfOk result (λ p. Packs (tables_of self.new) p
             (instruction.WriteText text.now)) }
     {
-        let start = small(self.pool.len())?;
+        let start = to_u32(self.pool.len())?;
         self.pool.push_str(text)?;
-        let end = small(self.pool.len())?;
+        let end = to_u32(self.pool.len())?;
         Ok(Packed::WriteText { start, end })
     }
 
     #[inline(always)]
     fn constant(&mut self, constant: &Constant<'_>, span: Span) -> Result<Packed, AllocError>
-        ensures grows { Grows (shelf_of self.old) (shelf_of self.new) }
-        ensures ok { IfOk result (λ p. Packs (shelf_of self.new) p
+        ensures grows { Grows (tables_of self.old) (tables_of self.new) }
+        ensures ok { IfOk result (λ p. Packs (tables_of self.new) p
             (instruction.LoadConst constant.now span)) }
     {
         let span = number(&mut self.spans, span)?;
@@ -294,7 +294,7 @@ impl Tables {
             Kept::Shared(value) => match small_integer(value) {
                 Some(number) => Ok(Packed::LoadInt { span, number }),
                 None => {
-                    let value = lacking(value.try_clone())?;
+                    let value = alloc_result(value.try_clone())?;
                     let constant = number(&mut self.constants, value)?;
                     Ok(Packed::LoadConst { constant, span })
                 }
@@ -308,13 +308,13 @@ impl Tables {
     fn name_and_span(
         &mut self,
         alloc: Global,
-        seen: &mut Seen,
-        name: &Sought<'_>,
+        seen: &mut NameCache,
+        name: &NameRef<'_>,
         span: Span,
     ) -> Result<(u32, u32), AllocError>
-        ensures grows { Grows (shelf_of self.old) (shelf_of self.new) }
-        ensures name { IfOk result (λ p. IsAt (shelf_of self.new).names p.0 name.now) }
-        ensures span { IfOk result (λ p. IsAt (shelf_of self.new).spans p.1 span) }
+        ensures grows { Grows (tables_of self.old) (tables_of self.new) }
+        ensures name { IfOk result (λ p. IsAt (tables_of self.new).names p.0 name.now) }
+        ensures span { IfOk result (λ p. IsAt (tables_of self.new).spans p.1 span) }
     {
         let name = name_number(alloc, &mut self.names, seen, name)?;
         let span = number(&mut self.spans, span)?;
@@ -325,70 +325,70 @@ impl Tables {
     pub(crate) fn written_name(
         &mut self,
         alloc: Global,
-        seen: &mut Seen,
-        name: &Sought<'_>,
+        seen: &mut NameCache,
+        name: &NameRef<'_>,
         span: Span,
     ) -> Result<Packed, AllocError>
-        ensures grows { Grows (shelf_of self.old) (shelf_of self.new) }
+        ensures grows { Grows (tables_of self.old) (tables_of self.new) }
         ensures ok { IfOk result
-            (λ p. Packs (shelf_of self.new) p (instruction.WriteName name.now span)) }
+            (λ p. Packs (tables_of self.new) p (instruction.WriteName name.now span)) }
     {
         let (name, span) = self.name_and_span(alloc, seen, name, span)?;
         Ok(Packed::WriteName { name, span })
     }
 
     fn make_array(&mut self, spreads: &Spreads<'_>, span: Span) -> Result<Packed, AllocError>
-        ensures grows { Grows (shelf_of self.old) (shelf_of self.new) }
-        ensures ok { IfOk result (λ p. Packs (shelf_of self.new) p
+        ensures grows { Grows (tables_of self.old) (tables_of self.new) }
+        ensures ok { IfOk result (λ p. Packs (tables_of self.new) p
             (instruction.MakeArray spreads.now span)) }
     {
-        let start = small(self.spreads.len())?;
+        let start = to_u32(self.spreads.len())?;
         self.spreads.extend_from_slice(spreads.as_slice())?;
-        let end = small(self.spreads.len())?;
+        let end = to_u32(self.spreads.len())?;
         let span = number(&mut self.spans, span)?;
         Ok(Packed::MakeArray { start, end, span })
     }
 
     /// The same for an array of these items, of which the flags stand in the pool alone.
     pub(crate) fn array_of(&mut self, items: &[Item], span: Span) -> Result<Packed, AllocError>
-        ensures grows { Grows (shelf_of self.old) (shelf_of self.new) }
-        ensures ok { IfOk result (λ p. Packs (shelf_of self.new) p
+        ensures grows { Grows (tables_of self.old) (tables_of self.new) }
+        ensures ok { IfOk result (λ p. Packs (tables_of self.new) p
             (instruction.MakeArray (spreads_of (items_of items.now)) span)) }
     {
-        let start = small(self.spreads.len())?;
+        let start = to_u32(self.spreads.len())?;
         add_spreads(&mut self.spreads, items)?;
-        let end = small(self.spreads.len())?;
+        let end = to_u32(self.spreads.len())?;
         let span = number(&mut self.spans, span)?;
         Ok(Packed::MakeArray { start, end, span })
     }
 
     fn make_map(&mut self, alloc: Global, keys: &Keys<'_>, span: Span) -> Result<Packed, AllocError>
-        ensures grows { Grows (shelf_of self.old) (shelf_of self.new) }
-        ensures ok { IfOk result (λ p. Packs (shelf_of self.new) p
+        ensures grows { Grows (tables_of self.old) (tables_of self.new) }
+        ensures ok { IfOk result (λ p. Packs (tables_of self.new) p
             (instruction.MakeMap keys.now span)) }
     {
-        let keys = copies(alloc, keys.as_slice())?;
+        let keys = copy_keys(alloc, keys.as_slice())?;
         let keys = number(&mut self.keys, keys)?;
         let span = number(&mut self.spans, span)?;
         Ok(Packed::MakeMap { keys, span })
     }
 
     fn take_block(&mut self, name: &LentName<'_>, span: Span) -> Result<Packed, AllocError>
-        ensures grows { Grows (shelf_of self.old) (shelf_of self.new) }
-        ensures ok { IfOk result (λ p. Packs (shelf_of self.new) p
+        ensures grows { Grows (tables_of self.old) (tables_of self.new) }
+        ensures ok { IfOk result (λ p. Packs (tables_of self.new) p
             (instruction.TakeBlock name.now span)) }
     {
-        let name = number(&mut self.names, lacking(name.share())?)?;
+        let name = number(&mut self.names, alloc_result(name.share())?)?;
         let span = number(&mut self.spans, span)?;
         Ok(Packed::TakeBlock { name, span })
     }
 
     fn take_include(&mut self, name: &LentName<'_>, span: Span) -> Result<Packed, AllocError>
-        ensures grows { Grows (shelf_of self.old) (shelf_of self.new) }
+        ensures grows { Grows (tables_of self.old) (tables_of self.new) }
         ensures ok { IfOk result
-            (λ p. Packs (shelf_of self.new) p (instruction.TakeInclude name.now span)) }
+            (λ p. Packs (tables_of self.new) p (instruction.TakeInclude name.now span)) }
     {
-        let target = number(&mut self.targets, lacking(name.share())?)?;
+        let target = number(&mut self.targets, alloc_result(name.share())?)?;
         let span = number(&mut self.spans, span)?;
         Ok(Packed::TakeInclude { target, span })
     }
@@ -401,12 +401,12 @@ impl Tables {
         has_body: bool,
         span: Span,
     ) -> Result<Packed, AllocError>
-        ensures grows { Grows (shelf_of self.old) (shelf_of self.new) }
-        ensures ok { IfOk result (λ p. Packs (shelf_of self.new) p
+        ensures grows { Grows (tables_of self.old) (tables_of self.new) }
+        ensures ok { IfOk result (λ p. Packs (tables_of self.new) p
             (instruction.TakeComponent name.now keys.now has_body span)) }
     {
-        let target = number(&mut self.targets, lacking(name.share())?)?;
-        let keys = copies(alloc, keys.as_slice())?;
+        let target = number(&mut self.targets, alloc_result(name.share())?)?;
+        let keys = copy_keys(alloc, keys.as_slice())?;
         let keys = number(&mut self.keys, keys)?;
         let span = number(&mut self.spans, span)?;
         Ok(Packed::TakeComponent {
@@ -423,13 +423,13 @@ impl Tables {
         key: &Option<LentName<'_>>,
         name: &LentName<'_>,
     ) -> Result<u32, AllocError>
-        ensures grows { Grows (shelf_of self.old) (shelf_of self.new) }
-        ensures ok { IfOk result (λ n. IsAt (shelf_of self.new).loops n
+        ensures grows { Grows (tables_of self.old) (tables_of self.new) }
+        ensures ok { IfOk result (λ n. IsAt (tables_of self.new).loops n
             (record { key = key.now; name = name.now })) }
     {
         let names = LoopNames {
-            key: lacking(LentName::share_option(key))?,
-            name: lacking(name.share())?,
+            key: alloc_result(LentName::share_option(key))?,
+            name: alloc_result(name.share())?,
         };
         number(&mut self.loops, names)
     }
@@ -443,12 +443,12 @@ impl Tables {
         arguments: &Names<'_>,
         span: Span,
     ) -> Result<Packed, AllocError>
-        ensures grows { Grows (shelf_of self.old) (shelf_of self.new) }
-        ensures ok { IfOk result (λ p. Packs (shelf_of self.new) p
+        ensures grows { Grows (tables_of self.old) (tables_of self.new) }
+        ensures ok { IfOk result (λ p. Packs (tables_of self.new) p
             (call_of kind name.now arguments.now span)) }
     {
-        let name = lacking(name.share())?;
-        let names = CallNames::new(name, shares(alloc, arguments.as_slice())?);
+        let name = alloc_result(name.share())?;
+        let names = CallNames::new(name, share_names(alloc, arguments.as_slice())?);
         let call = number(&mut self.calls, names)?;
         let span = number(&mut self.spans, span)?;
         Ok(match kind {
@@ -464,11 +464,11 @@ impl Tables {
     pub(crate) fn pack(
         &mut self,
         alloc: Global,
-        seen: &mut Seen,
+        seen: &mut NameCache,
         instruction: Instruction<'_>,
     ) -> Result<Packed, AllocError>
-        ensures grows { Grows (shelf_of self.old) (shelf_of self.new) }
-        ensures ok { IfOk result (λ p. Packs (shelf_of self.new) p instruction.entry) }
+        ensures grows { Grows (tables_of self.old) (tables_of self.new) }
+        ensures ok { IfOk result (λ p. Packs (tables_of self.new) p instruction.entry) }
     {
         match instruction {
             Instruction::WriteText(text) => self.text(text.as_str()),
@@ -492,7 +492,7 @@ impl Tables {
                 optional,
                 span,
             } => {
-                let name = Sought::new(name.as_str());
+                let name = NameRef::new(name.as_str());
                 let (name, span) = self.name_and_span(alloc, seen, &name, span)?;
                 Ok(Packed::LoadAttribute {
                     name,
@@ -517,7 +517,7 @@ impl Tables {
             Instruction::MakeArray(spreads, span) => self.make_array(&spreads, span),
             Instruction::MakeMap(keys, span) => self.make_map(alloc, &keys, span),
             Instruction::Store { name, is_global } => {
-                let name = number(&mut self.names, lacking(name.share())?)?;
+                let name = number(&mut self.names, alloc_result(name.share())?)?;
                 Ok(Packed::Store { name, is_global })
             }
             Instruction::StartLoop {
@@ -560,9 +560,9 @@ impl Tables {
                 has_body,
                 span,
             } => self.take_component(alloc, &name, &keys, has_body, span),
-            Instruction::TakeAbove { arguments, span } => {
+            Instruction::TakeSuper { arguments, span } => {
                 let span = number(&mut self.spans, span)?;
-                Ok(Packed::TakeAbove { span, arguments })
+                Ok(Packed::TakeSuper { span, arguments })
             }
             Instruction::ApplyFilter {
                 name,
@@ -583,23 +583,23 @@ impl Tables {
     }
 }
 
-fn copies(alloc: Global, keys: &[Option<OwnedKey>]) -> Result<Vec<Option<OwnedKey>>, AllocError>
+fn copy_keys(alloc: Global, keys: &[Option<OwnedKey>]) -> Result<Vec<Option<OwnedKey>>, AllocError>
     ensures { IfOk result (λ k. keys_of k.items ≡ keys_of keys.now) }
 {
     let mut all = Vec::new(alloc);
     for key in keys {
-        all.push(copied(alloc, key)?)?;
+        all.push(copy_key(alloc, key)?)?;
     }
     Ok(all)
 }
 
 // The names once more: counts, and no copies of their texts.
-fn shares(alloc: Global, names: &[Name]) -> Result<Vec<Name>, AllocError>
+fn share_names(alloc: Global, names: &[Name]) -> Result<Vec<Name>, AllocError>
     ensures { IfOk result (λ all. all.items ≡ names.now) }
 {
     let mut all = Vec::new(alloc);
     for name in names {
-        all.push(lacking(name.share())?)?;
+        all.push(alloc_result(name.share())?)?;
     }
     Ok(all)
 }

@@ -1,7 +1,7 @@
 // What is noted in an instruction of those behind it, once for all who run it.
 ghost use Rattle.std.specs.Prelude.{◌≡◌, ◌<◌, length, map, get_or};
 ghost use Rattle.std.specs.List.{All};
-ghost use Rattle.tera_code.specs.Packed.{Within, shelf_of, unpacked};
+ghost use Rattle.tera_code.specs.Packed.{Within, tables_of, unpacked};
 ghost use Rattle.tera_code.specs.Settled.{Notes, Settled};
 ghost use Rattle.tera_code.specs.declared.packed.Packed.TheVariants as packed;
 
@@ -13,14 +13,14 @@ use crate::packed::{Packed, Tables};
 /// no instruction is looked at more often than the three before it and the innermost loop ask for.
 #[inline(never)]
 pub(crate) fn settle(tables: &Tables, code: &mut [Packed])
-    requires { All (Within (shelf_of tables.now)) code.old }
-    ensures same { map (unpacked (shelf_of tables.now)) code.new
-        ≡ map (unpacked (shelf_of tables.now)) code.old }
-    ensures settled { Settled (shelf_of tables.now) code.new }
+    requires { All (Within (tables_of tables.now)) code.old }
+    ensures same { map (unpacked (tables_of tables.now)) code.new
+        ≡ map (unpacked (tables_of tables.now)) code.old }
+    ensures settled { Settled (tables_of tables.now) code.new }
 {
     for at in 0..code.len() {
         if code[at].has_notes() {
-            let noted = noted(tables, code, at);
+            let noted = with_notes(tables, code, at);
             code[at] = noted;
         }
     }
@@ -28,13 +28,13 @@ pub(crate) fn settle(tables: &Tables, code: &mut [Packed])
 
 // The instruction at this position, with its notes.
 #[inline(always)]
-fn noted(tables: &Tables, code: &[Packed], at: usize) -> Packed
-    requires within { All (Within (shelf_of tables.now)) code.now }
+fn with_notes(tables: &Tables, code: &[Packed], at: usize) -> Packed
+    requires within { All (Within (tables_of tables.now)) code.now }
     requires there { at < length code.now }
-    ensures within { Within (shelf_of tables.now) result }
-    ensures same { unpacked (shelf_of tables.now) result
-        ≡ unpacked (shelf_of tables.now) (get_or code.now at (packed.WriteText 0 0)) }
-    ensures notes { Notes (map (unpacked (shelf_of tables.now)) code.now) at result }
+    ensures within { Within (tables_of tables.now) result }
+    ensures same { unpacked (tables_of tables.now) result
+        ≡ unpacked (tables_of tables.now) (get_or code.now at (packed.WriteText 0 0)) }
+    ensures notes { Notes (map (unpacked (tables_of tables.now)) code.now) at result }
 {
     match code[at] {
         Packed::LoadName { name, span, .. } => Packed::LoadName {

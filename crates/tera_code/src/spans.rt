@@ -7,7 +7,7 @@ impl Chunk {
     // The instruction at this position. It is not handed out, so that it isn't counted.
     #[inline(never)]
     fn instruction_at(&self, position: usize) -> Option<Instruction<'_>> {
-        Some(self.lent(position)?.unpack())
+        Some(self.lend(position)?.unpack())
     }
 
     /// Where what the instruction at this position takes or calls is named in the template's text; none where it takes and calls
@@ -23,7 +23,7 @@ impl Chunk {
                 has_body: _,
                 span,
             } => Some(span),
-            Instruction::TakeAbove { arguments: _, span } => Some(span),
+            Instruction::TakeSuper { arguments: _, span } => Some(span),
             Instruction::ApplyFilter {
                 name: _,
                 arguments: _,

@@ -13,7 +13,7 @@ pub trait Tally: Drop {
     ghost is_over: { ℕ → Bool };
 
     /// Is told of one more.
-    fn one_more(&mut self)
+    fn count_one(&mut self)
         ensures { (n : ℕ) → told self.old n → told self.new (n + 1) };
 
     /// Whether it was told of more than the budget has.
@@ -31,7 +31,7 @@ impl Tally for Untold {
     ghost is_over = { λ _. false };
 
     #[inline(always)]
-    fn one_more(&mut self) {}
+    fn count_one(&mut self) {}
 
     #[inline(always)]
     fn is_spent(&self) -> bool {
@@ -73,7 +73,7 @@ impl<L: Allowance> Tally for Budget<L> {
     ghost is_over = { is_over L.allowed };
 
     #[inline(always)]
-    fn one_more(&mut self) {
+    fn count_one(&mut self) {
         self.left = match self.left {
             Some(left) if left > 0 => Some(left - 1),
             _ => None,

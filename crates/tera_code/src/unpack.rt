@@ -3,53 +3,53 @@ ghost use Rattle.std.specs.Prelude.{◌≡◌, ◌<◌, ◌≤◌, ◌-◌, [], 
 ghost use Rattle.std.specs.Str.{IsCharBoundary};
 ghost use Rattle.tera_built_ins.specs.Prelude.{filter_named, test_named};
 ghost use Rattle.tera_code.specs.Calls.{call_of};
-ghost use Rattle.tera_code.specs.Packed.{Within, shelf_of, span_at, name_at, call_at, loop_at, target_at, constant_of, unpacked};
+ghost use Rattle.tera_code.specs.Packed.{Within, tables_of, span_at, name_at, call_at, loop_at, target_at, constant_of, unpacked};
 
 use crate::call_kind::CallKind;
 use crate::constant::Constant;
 use crate::instruction::Instruction;
-use crate::lent_parts::{Keys, LentName, Names, Spreads, Text};
+use crate::instruction_parts::{Keys, LentName, Names, Spreads, LentText};
 use crate::packed::{Packed, Tables};
 use tera_built_ins::{BuiltInFilter, BuiltInTest};
-use tera_values::{Name, Sought, Span};
+use tera_values::{Name, NameRef, Span};
 
 impl Tables {
     #[inline(always)]
     pub(crate) fn span(&self, number: u32) -> Span
         requires { number < length self.now.spans.items }
-        ensures { result ≡ span_at (shelf_of self.now) number }
+        ensures { result ≡ span_at (tables_of self.now) number }
     {
         self.spans[number as usize]
     }
 
     #[inline(always)]
-    pub(crate) fn name(&self, number: u32) -> Sought<'_>
+    pub(crate) fn name(&self, number: u32) -> NameRef<'_>
         requires { number < length self.now.names.items }
-        ensures { result ≡ name_at (shelf_of self.now) number }
+        ensures { result ≡ name_at (tables_of self.now) number }
     {
-        self.whole_name(number).sought()
+        self.full_name(number).as_name_ref()
     }
 
     #[inline(always)]
-    pub(crate) fn attribute(&self, number: u32) -> Text<'_>
+    pub(crate) fn attribute(&self, number: u32) -> LentText<'_>
         requires { number < length self.now.names.items }
-        ensures { result ≡ name_at (shelf_of self.now) number }
+        ensures { result ≡ name_at (tables_of self.now) number }
     {
-        Text::new(self.whole_name(number).as_str())
+        LentText::new(self.full_name(number).as_str())
     }
 
     #[inline(always)]
-    pub(crate) fn whole_name(&self, number: u32) -> &Name
+    pub(crate) fn full_name(&self, number: u32) -> &Name
         requires { number < length self.now.names.items }
-        ensures { result.now ≡ name_at (shelf_of self.now) number }
+        ensures { result.now ≡ name_at (tables_of self.now) number }
     {
         &self.names[number as usize]
     }
 
     // What is called.
-    pub(crate) fn called(&self, number: u32) -> &str
+    pub(crate) fn callee_name(&self, number: u32) -> &str
         requires { number < length self.now.calls.items }
-        ensures { result.now ≡ (call_at (shelf_of self.now) number).0 }
+        ensures { result.now ≡ (call_at (tables_of self.now) number).0 }
     {
         self.calls[number as usize].name.as_str()
     }
@@ -58,7 +58,7 @@ impl Tables {
     #[inline(always)]
     pub(crate) fn built_in_filter(&self, number: u32) -> Option<BuiltInFilter>
         requires { number < length self.now.calls.items }
-        ensures { result ≡ filter_named (call_at (shelf_of self.now) number).0 }
+        ensures { result ≡ filter_named (call_at (tables_of self.now) number).0 }
     {
         self.calls[number as usize].filter()
     }
@@ -67,15 +67,15 @@ impl Tables {
     #[inline(always)]
     pub(crate) fn built_in_test(&self, number: u32) -> Option<BuiltInTest>
         requires { number < length self.now.calls.items }
-        ensures { result ≡ test_named (call_at (shelf_of self.now) number).0 }
+        ensures { result ≡ test_named (call_at (tables_of self.now) number).0 }
     {
         self.calls[number as usize].test()
     }
 
     #[inline(always)]
-    pub(crate) fn called_name(&self, number: u32) -> LentName<'_>
+    pub(crate) fn lent_callee_name(&self, number: u32) -> LentName<'_>
         requires { number < length self.now.calls.items }
-        ensures { result ≡ (call_at (shelf_of self.now) number).0 }
+        ensures { result ≡ (call_at (tables_of self.now) number).0 }
     {
         LentName::new(&self.calls[number as usize].name)
     }
@@ -84,7 +84,7 @@ impl Tables {
     #[inline(always)]
     pub(crate) fn target(&self, number: u32) -> &Name
         requires { number < length self.now.targets.items }
-        ensures { result.now ≡ target_at (shelf_of self.now) number }
+        ensures { result.now ≡ target_at (tables_of self.now) number }
     {
         &self.targets[number as usize]
     }
@@ -92,8 +92,8 @@ impl Tables {
     /// What a loop calls the keys, if it does, and the values of its items.
     pub(crate) fn loop_names(&self, number: u32) -> (Option<LentName<'_>>, LentName<'_>)
         requires { number < length self.now.loops.items }
-        ensures key { result.0 ≡ (loop_at (shelf_of self.now) number).key }
-        ensures name { result.1 ≡ (loop_at (shelf_of self.now) number).name }
+        ensures key { result.0 ≡ (loop_at (tables_of self.now) number).key }
+        ensures name { result.1 ≡ (loop_at (tables_of self.now) number).name }
     {
         let names = &self.loops[number as usize];
         (
@@ -105,14 +105,14 @@ impl Tables {
     /// The constant that it loads, where it loads one.
     #[inline(always)]
     pub(crate) fn constant_of(&self, packed: Packed) -> Constant<'_>
-        requires { Within (shelf_of self.now) packed }
-        ensures { result ≡ constant_of (shelf_of self.now) packed }
+        requires { Within (tables_of self.now) packed }
+        ensures { result ≡ constant_of (tables_of self.now) packed }
     {
         match packed {
             Packed::LoadBool { flag, .. } => Constant::from_bool(flag),
             Packed::LoadInt { number, .. } => Constant::from_int(number),
             Packed::LoadConst { constant, .. } => {
-                Constant::shared(&self.constants[constant as usize])
+                Constant::from_shared(&self.constants[constant as usize])
             }
             _ => Constant::none(),
         }
@@ -121,7 +121,7 @@ impl Tables {
     #[inline(always)]
     pub(crate) fn argument_names(&self, number: u32) -> Names<'_>
         requires { number < length self.now.calls.items }
-        ensures { result ≡ (call_at (shelf_of self.now) number).1 }
+        ensures { result ≡ (call_at (tables_of self.now) number).1 }
     {
         Names::new(self.calls[number as usize].arguments.as_slice())
     }
@@ -131,12 +131,12 @@ impl Tables {
     fn call_of(&self, kind: CallKind, call: u32, span: u32) -> Instruction<'_>
         requires call { call < length self.now.calls.items }
         requires span { span < length self.now.spans.items }
-        ensures { result ≡ call_of kind (call_at (shelf_of self.now) call).0
-            (call_at (shelf_of self.now) call).1 (span_at (shelf_of self.now) span) }
+        ensures { result ≡ call_of kind (call_at (tables_of self.now) call).0
+            (call_at (tables_of self.now) call).1 (span_at (tables_of self.now) span) }
     {
         Instruction::call(
             kind,
-            self.called_name(call),
+            self.lent_callee_name(call),
             self.argument_names(call),
             self.span(span),
         )
@@ -146,7 +146,7 @@ impl Tables {
     #[inline(always)]
     pub(crate) fn lent_keys(&self, number: u32) -> Keys<'_>
         requires { number < length self.now.keys.items }
-        ensures { result ≡ get_or (shelf_of self.now).keys number [] }
+        ensures { result ≡ get_or (tables_of self.now).keys number [] }
     {
         Keys::new(self.keys[number as usize].as_slice())
     }
@@ -164,12 +164,12 @@ impl Tables {
     /// The instruction that is meant.
     #[inline(always)]
     pub(crate) fn unpack(&self, packed: Packed) -> Instruction<'_>
-        requires { Within (shelf_of self.now) packed }
-        ensures { result ≡ unpacked (shelf_of self.now) packed }
+        requires { Within (tables_of self.now) packed }
+        ensures { result ≡ unpacked (tables_of self.now) packed }
     {
         match packed {
             Packed::WriteText { start, end } => {
-                Instruction::WriteText(Text::new(self.text_between(start, end)))
+                Instruction::WriteText(LentText::new(self.text_between(start, end)))
             }
             Packed::WriteTop => Instruction::WriteTop,
             Packed::WriteName { name, span } => {
@@ -213,7 +213,7 @@ impl Tables {
                 Instruction::MakeMap(self.lent_keys(keys), self.span(span))
             }
             Packed::Store { name, is_global } => Instruction::Store {
-                name: LentName::new(self.whole_name(name)),
+                name: LentName::new(self.full_name(name)),
                 is_global,
             },
             Packed::StartLoop {
@@ -243,7 +243,7 @@ impl Tables {
             Packed::JumpIfFalseOrPop(skip) => Instruction::JumpIfFalseOrPop(skip),
             Packed::JumpIfTrueOrPop(skip) => Instruction::JumpIfTrueOrPop(skip),
             Packed::TakeBlock { name, span } => Instruction::TakeBlock {
-                name: LentName::new(self.whole_name(name)),
+                name: LentName::new(self.full_name(name)),
                 span: self.span(span),
             },
             Packed::TakeInclude { target, span } => Instruction::TakeInclude {
@@ -261,7 +261,7 @@ impl Tables {
                 has_body,
                 span: self.span(span),
             },
-            Packed::TakeAbove { span, arguments } => Instruction::TakeAbove {
+            Packed::TakeSuper { span, arguments } => Instruction::TakeSuper {
                 arguments,
                 span: self.span(span),
             },

@@ -57,7 +57,7 @@ impl ComponentArg {
         ensures { Gives (λ a. a) result (Ok (formal_of (parameter_of parameter.now))) }
     {
         let default = match &parameter.default {
-            Some(literal) => Some(value_from(alloc, literal)?.shared(alloc)?),
+            Some(literal) => Some(value_from(alloc, literal)?.into_shared(alloc)?),
             None => None,
         };
         Ok(ComponentArg {
@@ -107,7 +107,7 @@ impl ComponentArg {
         if !self.is_implicit {
             return Ok(None);
         }
-        let found = caller.look_implicit(&self.name.sought());
+        let found = caller.look_implicit(&self.name.as_name_ref());
         if found.is_undefined() {
             return Ok(None);
         }
@@ -151,12 +151,12 @@ impl ComponentArg {
     {
         let value = match self.offer(alloc, given, caller)? {
             Some(value) => value,
-            None => return Err(faults::missing(alloc, component, self.name.as_str(), given)),
+            None => return Err(faults::missing_argument(alloc, component, self.name.as_str(), given)),
         };
         match self.of_type {
             Some(of_type) if !is_of_type(&value, of_type) => {
                 let name = self.name.as_str();
-                Err(faults::unfit(alloc, component, name, of_type, value.in_words()))
+                Err(faults::unfit_argument(alloc, component, name, of_type, value.in_words()))
             }
             _ => Ok(value),
         }

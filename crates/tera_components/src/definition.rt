@@ -155,7 +155,7 @@ impl ComponentDefinition {
     {
         for argument in self.arguments.iter() {
             let value = argument.value(alloc, self.name.as_str(), given, caller)?;
-            context.put(argument.shared_name()?, value.shared(alloc)?)?;
+            context.put(argument.shared_name()?, value.into_shared(alloc)?)?;
         }
         Ok(())
     }
@@ -174,7 +174,7 @@ impl ComponentDefinition {
     {
         for argument in self.arguments.iter() {
             let value = argument.value(alloc, self.name.as_str(), given, caller)?;
-            let old = context.insert(argument.shared_name()?, value.shared(alloc)?)?;
+            let old = context.insert(argument.shared_name()?, value.into_shared(alloc)?)?;
             drop(old);
         }
         Ok(())
@@ -188,12 +188,12 @@ impl ComponentDefinition {
             (or_message (with_rest self.now.rest over context.old)) }
     {
         if let Some(rest) = &self.rest {
-            return context.put(rest.share()?, Value::map(others).shared(alloc)?);
+            return context.put(rest.share()?, Value::map(others).into_shared(alloc)?);
         }
         match others.entry_at(0) {
             Some((name, _)) => {
                 let arguments = self.arguments.as_slice();
-                Err(faults::unknown(alloc, self.name.as_str(), name, arguments))
+                Err(faults::unknown_argument(alloc, self.name.as_str(), name, arguments))
             }
             None => Ok(()),
         }
@@ -211,7 +211,7 @@ impl ComponentDefinition {
         ensures { Binds self.now (named_arguments given.now) body (C.implicit caller.now) result }
     {
         let others = self.others(alloc, given)?;
-        let mut ordered = map_begun(alloc, body)?;
+        let mut ordered = map_with_body(alloc, body)?;
         self.map_arguments(alloc, given, caller, &mut ordered)?;
         let mut context = Kwargs::of_map(alloc, ordered)?;
         self.put_others(alloc, others, &mut context)?;
@@ -233,7 +233,7 @@ impl ComponentDefinition {
             return self.bind_many(alloc, given, caller, body);
         }
         let others = self.others(alloc, given)?;
-        let mut context = begun(alloc, self.arguments.len(), body)?;
+        let mut context = context_with_body(alloc, self.arguments.len(), body)?;
         self.put_arguments(alloc, given, caller, &mut context)?;
         self.put_others(alloc, others, &mut context)?;
         Ok(context)
@@ -270,7 +270,7 @@ impl ComponentDefinition {
 }
 
 // A context with the body alone, and with room for so many parameters.
-fn begun(alloc: Global, parameters: usize, body: Option<Value>) -> TeraResult<Kwargs>
+fn context_with_body(alloc: Global, parameters: usize, body: Option<Value>) -> TeraResult<Kwargs>
     ensures { Gives (λ c. c) result (Ok (with_body body [])) }
 {
     let mut context = Kwargs::with_capacity(alloc, parameters)?;
@@ -281,12 +281,12 @@ fn begun(alloc: Global, parameters: usize, body: Option<Value>) -> TeraResult<Kw
 }
 
 // The same as a map.
-fn map_begun(alloc: Global, body: Option<Value>) -> TeraResult<BTreeMap<Name, Value>>
+fn map_with_body(alloc: Global, body: Option<Value>) -> TeraResult<BTreeMap<Name, Value>>
     ensures { Gives (λ c. c.entries) result (Ok (with_body body [])) }
 {
     let mut context = BTreeMap::new(alloc);
     if let Some(value) = body {
-        let old = context.insert(Name::new(alloc, "body")?, value.shared(alloc)?)?;
+        let old = context.insert(Name::new(alloc, "body")?, value.into_shared(alloc)?)?;
         drop(old);
     }
     Ok(context)

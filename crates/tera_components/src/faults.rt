@@ -3,14 +3,14 @@ ghost use Rattle.tera_errors.specs.Prelude.{Tells, message};
 
 use crate::argument::ComponentArg;
 use std::alloc::{AllocError, Global};
-use tera_errors::{Guess, lacking};
+use tera_errors::{Guess, alloc_result};
 use tera_operators::Entries;
 use tera_syntax_tree::ArgumentType;
 use tera_values::{Error, Key, Map};
 
 /// A parameter has no value. It tells of an argument that is given and whose name is near.
 #[inline(never)]
-pub(crate) fn missing(alloc: Global, component: &str, parameter: &str, given: &Entries<'_>) -> Error
+pub(crate) fn missing_argument(alloc: Global, component: &str, parameter: &str, given: &Entries<'_>) -> Error
     ensures { Tells result message }
 {
     Error::message_from(missing_in_words(alloc, component, parameter, given))
@@ -26,7 +26,7 @@ fn missing_in_words(
     match given.as_map() {
         Some(given) => add_names(given, &mut guess)?,
         None => {
-            let given = lacking(given.to_map(alloc))?;
+            let given = alloc_result(given.to_map(alloc))?;
             add_names(&given, &mut guess)?;
         }
     }
@@ -50,7 +50,7 @@ fn add_names(given: &Map, guess: &mut Guess<'_>) -> Result<(), AllocError> {
 
 /// A parameter's value is of another type.
 #[inline(never)]
-pub(crate) fn unfit(
+pub(crate) fn unfit_argument(
     alloc: Global,
     component: &str,
     parameter: &str,
@@ -67,7 +67,7 @@ pub(crate) fn unfit(
 
 /// No parameter takes an argument of this name. It tells of one whose name is near.
 #[inline(never)]
-pub(crate) fn unknown(
+pub(crate) fn unknown_argument(
     alloc: Global,
     component: &str,
     argument: &Key,

@@ -7,7 +7,7 @@ use std::fmt;
 
 /// What a text goes on with, where it is JSON.
 #[derive(Clone, Copy, Debug, PartialEq, Eq)]
-pub(crate) enum Wanted {
+pub(crate) enum Expected {
     Value,
     Name,
     Colon,
@@ -18,15 +18,15 @@ pub(crate) enum Wanted {
     Flatter,
 }
 
-impl fmt::Display for Wanted {
+impl fmt::Display for Expected {
     fn fmt<W: fmt::Write>(&self, f: &mut fmt::Formatter<W>) -> fmt::Result {
         f.write_str(match self {
-            Wanted::Value => "a value is wanted here",
-            Wanted::Name => "a name in quotes is wanted here",
-            Wanted::Colon => "`:` is wanted here",
-            Wanted::More => "`,` or a closing bracket is wanted here",
-            Wanted::End => "the data is to end before this",
-            Wanted::Flatter => "this nests deeper than 128",
+            Expected::Value => "a value is wanted here",
+            Expected::Name => "a name in quotes is wanted here",
+            Expected::Colon => "`:` is wanted here",
+            Expected::More => "`,` or a closing bracket is wanted here",
+            Expected::End => "the data is to end before this",
+            Expected::Flatter => "this nests deeper than 128",
         })
     }
 }
@@ -35,34 +35,34 @@ impl fmt::Display for Wanted {
 #[derive(Clone, Copy, Debug)]
 pub(crate) struct Fault {
     pub(crate) at: usize,
-    pub(crate) wanted: Wanted,
+    pub(crate) wanted: Expected,
 }
 
 /// What has been read: for each bracket that is open whether it is an object's, and what comes next.
 #[derive(Drop)]
-struct Walk {
+struct JsonState {
     objects: Vec<bool>,
-    next: Wanted,
+    next: Expected,
 }
 
-impl Walk {
-    fn new(alloc: Global) -> Walk {
-        Walk {
+impl JsonState {
+    fn new(alloc: Global) -> JsonState {
+        JsonState {
             objects: Vec::new(alloc),
-            next: Wanted::Value,
+            next: Expected::Value,
         }
     }
 
     // What was wanted in place of the token, or nothing where it may stand there.
-    fn take(&mut self, token: Token<'_>) -> Result<Option<Wanted>, AllocError> {
+    fn take(&mut self, token: Token<'_>) -> Result<Option<Expected>, AllocError> {
         match self.next {
-            Wanted::Value => self.take_value(token),
-            Wanted::Name => Ok(self.take_name(token)),
+            Expected::Value => self.take_value(token),
+            Expected::Name => Ok(self.take_name(token)),
             wanted => Ok(Some(wanted)),
         }
     }
 
-    fn take_value(&mut self, token: Token<'_>) -> Result<Option<Wanted>, AllocError> {
+    fn take_value(&mut self, token: Token<'_>) -> Result<Option<Expected>, AllocError> {
         match token {
             Token::BeginArray => self.open(false),
             Token::BeginObject => self.open(true),
@@ -70,45 +70,45 @@ impl Walk {
             Token::String(_) | Token::Number(_) | Token::Bool(_) | Token::Null => {
                 Ok(self.pass_value())
             }
-            _ => Ok(Some(Wanted::Value)),
+            _ => Ok(Some(Expected::Value)),
         }
     }
 
-    fn take_name(&mut self, token: Token<'_>) -> Option<Wanted> {
+    fn take_name(&mut self, token: Token<'_>) -> Option<Expected> {
         match token {
             Token::Key(_) => {
-                self.next = Wanted::Value;
+                self.next = Expected::Value;
                 None
             }
             Token::EndObject => self.close(),
-            Token::String(_) => Some(Wanted::Colon),
-            _ => Some(Wanted::Name),
+            Token::String(_) => Some(Expected::Colon),
+            _ => Some(Expected::Name),
         }
     }
 
-    fn open(&mut self, is_object: bool) -> Result<Option<Wanted>, AllocError> {
+    fn open(&mut self, is_object: bool) -> Result<Option<Expected>, AllocError> {
         if self.objects.len() >= MAX_DEPTH {
-            return Ok(Some(Wanted::Flatter));
+            return Ok(Some(Expected::Flatter));
         }
         self.objects.push(is_object)?;
         self.next = if is_object {
-            Wanted::Name
+            Expected::Name
         } else {
-            Wanted::Value
+            Expected::Value
         };
         Ok(None)
     }
 
-    fn close(&mut self) -> Option<Wanted> {
+    fn close(&mut self) -> Option<Expected> {
         let _closed = self.objects.pop();
         self.pass_value()
     }
 
-    fn pass_value(&mut self) -> Option<Wanted> {
+    fn pass_value(&mut self) -> Option<Expected> {
         self.next = match self.objects.last() {
-            None => Wanted::End,
-            Some(true) => Wanted::Name,
-            Some(false) => Wanted::Value,
+            None => Expected::End,
+            Some(true) => Expected::Name,
+            Some(false) => Expected::Value,
         };
         None
     }
@@ -123,20 +123,20 @@ pub(crate) fn fault_of(alloc: Global, text: &str) -> Fault
         Ok(mut reader) => first_fault(alloc, &mut reader),
         Err(_) => Fault {
             at: 0,
-            wanted: Wanted::Value,
+            wanted: Expected::Value,
         },
     };
     let at = at.min(text.len());
-    let is_behind = is_behind_value(&text.as_bytes()[..at]);
+    let is_behind = is_after_value(&text.as_bytes()[..at]);
     let wanted = match wanted {
-        Wanted::Value | Wanted::Name if is_behind => Wanted::More,
+        Expected::Value | Expected::Name if is_behind => Expected::More,
         wanted => wanted,
     };
     Fault { at, wanted }
 }
 
 fn first_fault(alloc: Global, reader: &mut Reader<'_>) -> Fault {
-    let mut walk = Walk::new(alloc);
+    let mut walk = JsonState::new(alloc);
     for _ in 0..u64::MAX {
         let at = reader.offset();
         let token = match reader.next() {
@@ -145,10 +145,10 @@ fn first_fault(alloc: Global, reader: &mut Reader<'_>) -> Fault {
         };
         match step(&mut walk, token) {
             None => {}
-            Some(Wanted::Colon) => {
+            Some(Expected::Colon) => {
                 return Fault {
                     at: reader.offset(),
-                    wanted: Wanted::Colon,
+                    wanted: Expected::Colon,
                 };
             }
             Some(wanted) => return Fault { at, wanted },
@@ -160,7 +160,7 @@ fn first_fault(alloc: Global, reader: &mut Reader<'_>) -> Fault {
     }
 }
 
-fn step(walk: &mut Walk, token: Token<'_>) -> Option<Wanted> {
+fn step(walk: &mut JsonState, token: Token<'_>) -> Option<Expected> {
     if let Token::Bad = token {
         return Some(walk.next);
     }
@@ -172,7 +172,7 @@ fn step(walk: &mut Walk, token: Token<'_>) -> Option<Wanted> {
 }
 
 // Whether the last byte that is no space ends a value.
-fn is_behind_value(before: &[u8]) -> bool {
+fn is_after_value(before: &[u8]) -> bool {
     for byte in before.iter().rev() {
         if !byte.is_ascii_whitespace() {
             return !matches!(*byte, b'[' | b'{' | b',' | b':');

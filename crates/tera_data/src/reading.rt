@@ -7,7 +7,7 @@ ghost use Rattle.tera_data.specs.Values.{read, value_in};
 
 use crate::conversion::{context_of, value_of};
 use crate::number::Floats;
-use crate::words::{no_object, no_text, unreadable, with_path};
+use crate::words::{no_object, no_text, unreadable_text, with_path};
 use json::{Scratch, Value as Json};
 use std::alloc::Global;
 use tera_errors::{Error, TeraResult};
@@ -68,7 +68,7 @@ fn read<'a>(alloc: Global, text: &'a str, scratch: &'a mut Scratch) -> TeraResul
     match Json::parse(alloc, text, scratch) {
         Ok(json) => Ok(json),
         Err(json::Error::OutOfMemory) => Err(Error::out_of_memory()),
-        Err(_) => Err(unreadable(alloc, text)),
+        Err(_) => Err(unreadable_text(alloc, text)),
     }
 }
 

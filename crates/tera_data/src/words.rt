@@ -34,7 +34,7 @@ pub(crate) fn at_item(alloc: Global, error: Error, position: usize) -> Error
         Some(words) => format!(in alloc; "[{position}]{words}"),
         None => Err(AllocError),
     };
-    retold(alloc, error, words)
+    retell(alloc, error, words)
 }
 
 /// The same error, of what stands in the member of this name.
@@ -45,7 +45,7 @@ pub(crate) fn at_member(alloc: Global, error: Error, name: &str) -> Error
         Some(words) => format!(in alloc; ".{name}{words}"),
         None => Err(AllocError),
     };
-    retold(alloc, error, words)
+    retell(alloc, error, words)
 }
 
 /// The same error, whose path is whole.
@@ -53,13 +53,13 @@ pub(crate) fn with_path(alloc: Global, error: Error) -> Error
     ensures { result ≡ error }
 {
     let words = match error.words() {
-        Some(words) => whole(alloc, words),
+        Some(words) => words_with_path(alloc, words),
         None => Err(AllocError),
     };
-    retold(alloc, error, words)
+    retell(alloc, error, words)
 }
 
-fn whole(alloc: Global, words: &str) -> Result<String, AllocError> {
+fn words_with_path(alloc: Global, words: &str) -> Result<String, AllocError> {
     if let Some(rest) = words.strip_prefix(BEHIND_PATH) {
         return format!(in alloc; "the data{rest}");
     }
@@ -73,11 +73,11 @@ fn whole(alloc: Global, words: &str) -> Result<String, AllocError> {
 }
 
 // The same error in these words, if they found room.
-fn retold(alloc: Global, error: Error, words: Result<String, AllocError>) -> Error
+fn retell(alloc: Global, error: Error, words: Result<String, AllocError>) -> Error
     ensures { result ≡ error }
 {
     match words {
-        Ok(words) => error.telling(alloc, words.as_str()),
+        Ok(words) => error.with_message(alloc, words.as_str()),
         Err(_) => error,
     }
 }
@@ -122,7 +122,7 @@ fn lines_in(bytes: &[u8]) -> usize {
 }
 
 /// The text is no JSON.
-pub(crate) fn unreadable(alloc: Global, text: &str) -> Error
+pub(crate) fn unreadable_text(alloc: Global, text: &str) -> Error
     ensures { Tells result message }
 {
     let Fault { at, wanted } = fault_of(alloc, text);

@@ -1,5 +1,5 @@
 // Contexts from data, one over another.
-use crate::shown::is_value;
+use crate::checks::is_value;
 use std::alloc::Global;
 use tera_data::{Floats, json_context, put_json};
 use tera_values::{Context, TeraResult};

@@ -4,7 +4,7 @@
 #[cfg(test)]
 mod contexts;
 #[cfg(test)]
-mod shown;
+mod checks;
 #[cfg(test)]
 mod values;
 #[cfg(test)]

@@ -1,5 +1,5 @@
 // What a text of JSON spells.
-use crate::shown::spells;
+use crate::checks::spells;
 use std::alloc::Global;
 use tera_data::{Floats, json_value};
 use tera_values::TeraResult;
@@ -93,7 +93,7 @@ fn numbers_are_integers_or_texts(rt: HostRuntime) {
 }
 
 /// A text of so many brackets that open, and as many that close.
-pub(crate) fn nested(alloc: Global, depth: usize) -> TeraResult<String> {
+pub(crate) fn nested_arrays(alloc: Global, depth: usize) -> TeraResult<String> {
     let mut text = String::new(alloc);
     for _ in 0..depth {
         text.push('[')?;
@@ -105,7 +105,7 @@ pub(crate) fn nested(alloc: Global, depth: usize) -> TeraResult<String> {
 }
 
 fn is_read(alloc: Global, depth: usize) -> bool {
-    match nested(alloc, depth) {
+    match nested_arrays(alloc, depth) {
         Ok(text) => json_value(alloc, text.as_str(), Floats::Refuse).is_ok(),
         Err(_) => false,
     }

@@ -1,6 +1,6 @@
 // What people are told of data that is refused.
-use crate::shown::tells;
-use crate::values::nested;
+use crate::checks::tells;
+use crate::values::nested_arrays;
 use std::alloc::Global;
 use tera_data::{Floats, json_context, json_value, text_of};
 
@@ -66,7 +66,7 @@ fn refusals_say_where(rt: HostRuntime) {
 
 /// Whether a text that nests too deep is told of as such.
 fn is_deep(alloc: Global) -> bool {
-    match nested(alloc, 129) {
+    match nested_arrays(alloc, 129) {
         Ok(text) => is_told(
             alloc,
             text.as_str(),

@@ -6,7 +6,7 @@ fn is_command(line: &str) -> bool {
 }
 
 // A line that is no command belongs to the last one.
-fn take(alloc: Global, commands: &mut Vec<String>, line: &str) -> Result<(), AllocError> {
+fn add_line(alloc: Global, commands: &mut Vec<String>, line: &str) -> Result<(), AllocError> {
     if is_command(line) {
         commands.push(String::from_str(alloc, line)?)?;
         return Ok(());
@@ -21,7 +21,7 @@ fn take(alloc: Global, commands: &mut Vec<String>, line: &str) -> Result<(), All
 pub fn commands(alloc: Global, script: &str) -> Result<Vec<String>, AllocError> {
     let mut commands = Vec::new(alloc);
     for line in script.split_inclusive('\n') {
-        take(alloc, &mut commands, line)?;
+        add_line(alloc, &mut commands, line)?;
     }
     Ok(commands)
 }

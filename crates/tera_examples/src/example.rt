@@ -25,7 +25,7 @@ pub fn example_of(alloc: Global, line: &str) -> Result<Example, AllocError> {
 }
 
 /// What the file of this name with `.stdout` behind says.
-fn expected(rt: &HostRuntime, name: &str) -> io::Result<Vec<u8>> {
+fn expected_output(rt: &HostRuntime, name: &str) -> io::Result<Vec<u8>> {
     let path = format!(in rt.alloc(); "{name}.stdout")?;
     fs::read(rt, path.as_str())
 }
@@ -33,7 +33,7 @@ fn expected(rt: &HostRuntime, name: &str) -> io::Result<Vec<u8>> {
 /// Whether the script of this name is answered as it should.
 pub fn is_answered(rt: &HostRuntime, name: &str) -> io::Result<bool> {
     let script = fs::read_to_string(rt, name)?;
-    let wanted = expected(rt, name)?;
+    let wanted = expected_output(rt, name)?;
     match replies(rt.alloc(), script.as_str()) {
         Some(given) => Ok(given == wanted),
         None => Ok(false),
@@ -43,7 +43,7 @@ pub fn is_answered(rt: &HostRuntime, name: &str) -> io::Result<bool> {
 /// Whether it is so too with more and more memory, in the sense of `Trial`, until there is enough.
 pub fn is_right_where_refused(rt: &HostRuntime, name: &str) -> io::Result<bool> {
     let script = fs::read_to_string(rt, name)?;
-    let wanted = expected(rt, name)?;
+    let wanted = expected_output(rt, name)?;
     let mut trial = Trial::new(rt.alloc(), script.as_str(), wanted.as_slice())?;
-    Ok(refusals_of_little(|budget| trial.at(budget)) > Some(0))
+    Ok(refusals_of_little(|budget| trial.try_with(budget)) > Some(0))
 }

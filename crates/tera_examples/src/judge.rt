@@ -9,7 +9,7 @@ const REFUSED_BATCH: &str = "@@ template child\n{% extends \"no such parent\" %}
 
 /// A walk along the commands of a script and what was written for them.
 #[derive(Drop)]
-struct Walk<'a> {
+struct ReplyWalk<'a> {
     alloc: Global,
     /// The commands so far that were not refused.
     kept: String,
@@ -19,9 +19,9 @@ struct Walk<'a> {
     rest: &'a [u8],
 }
 
-impl<'a> Walk<'a> {
-    fn new(alloc: Global, written: &'a [u8]) -> Walk<'a> {
-        Walk {
+impl<'a> ReplyWalk<'a> {
+    fn new(alloc: Global, written: &'a [u8]) -> ReplyWalk<'a> {
+        ReplyWalk {
             alloc,
             kept: String::new(alloc),
             behind: 0,
@@ -62,7 +62,7 @@ impl<'a> Walk<'a> {
 
 /// Whether this may be written for a script of these commands, of which some were refused memory.
 pub fn is_right(alloc: Global, commands: &[String], written: &[u8]) -> bool {
-    let mut walk = Walk::new(alloc, written);
+    let mut walk = ReplyWalk::new(alloc, written);
     for command in commands {
         if walk.pass(command.as_str()).is_none() {
             return false;

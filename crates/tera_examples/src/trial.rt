@@ -33,9 +33,9 @@ impl<'a> Trial<'a> {
     }
 
     /// How the script is answered where so many bytes are left of little memory.
-    pub fn at(&mut self, budget: usize) -> Tried {
+    pub fn try_with(&mut self, budget: usize) -> Tried {
         match self.run(budget) {
-            Some((outcome, written)) => self.judged(outcome, written),
+            Some((outcome, written)) => self.judge(outcome, written),
             None => Tried::Wrong,
         }
     }
@@ -55,16 +55,16 @@ impl<'a> Trial<'a> {
         Some((outcome, writer.into_inner()))
     }
 
-    fn judged(&mut self, outcome: Outcome, written: Vec<u8>) -> Tried {
+    fn judge(&mut self, outcome: Outcome, written: Vec<u8>) -> Tried {
         match outcome {
             Outcome::Done if written.as_slice() == self.wanted => Tried::Answered,
-            Outcome::Done => self.judged_refused(written),
+            Outcome::Done => self.judge_refused(written),
             Outcome::NoMemory if written.is_empty() => Tried::Refused,
             _ => Tried::Wrong,
         }
     }
 
-    fn judged_refused(&mut self, written: Vec<u8>) -> Tried {
+    fn judge_refused(&mut self, written: Vec<u8>) -> Tried {
         if written == self.right {
             return Tried::Refused;
         }

@@ -4,7 +4,7 @@ use Rattle.tera_errors.specs.Site.{Name}
 use Rattle.tera_values.specs.Alphabet.{plain}
 use Rattle.tera_values.specs.Named.{Named, at_name}
 use Rattle.tera_values.specs.Val.{Val}
-use Rattle.tera_built_ins.specs.declared.filter.BuiltInFilter.{BuiltInFilter}
+use Rattle.tera_built_ins.specs.declared.built_in_filter.BuiltInFilter.{BuiltInFilter}
 use Rattle.tera_built_ins.specs.Filters.{filter_named, filter_of}
 use Rattle.tera_state.specs.Scope.{Around, Variables}
 use Rattle.tera_objects.specs.BuiltIn.{escaping_by}

@@ -25,9 +25,9 @@ use Rattle.tera_registry.specs.HandedOut.{code_of, found_of}
 use Rattle.tera_registry.specs.Templates.{definers_of, IsKept, IsDefined}
 use Rattle.tera_registry.specs.declared.templates.Defined.{Defined}
 use Rattle.tera_registry.specs.declared.templates.FoundTemplate.{FoundTemplate}
-use Rattle.tera_machine.specs.declared.bodies.Outer.{Outer}
-use Rattle.tera_machine.specs.declared.blocks.OpenBlocks.{OpenBlocks}
-use Rattle.tera_machine.specs.declared.components.Called.{Called}
+use Rattle.tera_machine.specs.declared.block_bodies.SavedBody.{SavedBody}
+use Rattle.tera_machine.specs.declared.open_bodies.OpenBodies.{OpenBodies}
+use Rattle.tera_machine.specs.declared.components.ComponentBody.{ComponentBody}
 use Rattle.tera_machine.specs.declared.configuration.Configuration.{Configuration}
 use Rattle.tera_machine.specs.declared.machine.VirtualMachine.{VirtualMachine}
 use Rattle.tera_machine.specs.Config.{config_of}
@@ -150,7 +150,7 @@ module _ (w : World) (p : Place) (name : Name) (given : List (Name × Val)) (bod
       too_deep told l h = told_refused told message (deep false (le-ltb p.depth 20 l)) h
 
       -- and else it runs
-      pub is_called : (called : Called) → p.depth < 20 → called.context ≡ context → called.body ≡ found.body → called.depth ≡ suc p.depth → IsOf w.registry found.body → IsCalled w p q v called
+      pub is_called : (called : ComponentBody) → p.depth < 20 → called.context ≡ context → called.body ≡ found.body → called.depth ≡ suc p.depth → IsOf w.registry found.body → IsCalled w p q v called
       is_called called l x y z of = record {
         file = c.file;
         body = c.body;
@@ -162,8 +162,8 @@ module _ (w : World) (p : Place) (name : Name) (given : List (Name × Val)) (bod
 
 -- A component's body that is taken.
 
-module _ (w : World) {O : Type 0} (m : VirtualMachine O) (file : Name) (q : Request) (u : Use) (b0 : OpenBlocks) (c0 : Configuration) where
-  module _ {called : Called} (is : IsCalled w (place_at m file b0 c0) q (config_of c0).run.vars called) (m1 : VirtualMachine O) (b1 : OpenBlocks) {outer : Outer} {c1 : Configuration} (template : m1.template ≡ None) (escapes : m1.autoescape ≡ m.autoescape) (depth : m1.depth ≡ called.depth) (names : names_opened b1.opened.inner ≡ []) (above : definers_of b1.above ≡ []) (included : names_in b1.included.inner ≡ []) (begins : Begins (in_component called.context (around_of c0.scopes) (variables_of c0.scopes)) c0 outer c1) where
+module _ (w : World) {O : Type 0} (m : VirtualMachine O) (file : Name) (q : Request) (u : Use) (b0 : OpenBodies) (c0 : Configuration) where
+  module _ {called : ComponentBody} (is : IsCalled w (place_at m file b0 c0) q (config_of c0).run.vars called) (m1 : VirtualMachine O) (b1 : OpenBodies) {outer : SavedBody} {c1 : Configuration} (template : m1.template ≡ None) (escapes : m1.autoescape ≡ m.autoescape) (depth : m1.depth ≡ called.depth) (names : names_opened b1.opened.inner ≡ []) (above : definers_of b1.above ≡ []) (included : names_in b1.included.inner ≡ []) (begins : Begins (in_component called.context (around_of c0.scopes) (variables_of c0.scopes)) c0 outer c1) where
     same_place : place_of_component (in_component called.context (around_of c0.scopes) (variables_of c0.scopes)) m.autoescape (suc m.depth) is.file ≡ place_at m1 (code_of called.body).file b1 c1
     same_place =
         let x = in_component called.context (around_of c0.scopes) (variables_of c0.scopes) in

@@ -79,7 +79,7 @@ module _ (w : World) (place : Place) (code : Code) (below : Below w place) where
   length-argument_names (MoreArguments name value rest) = ap (λ n. suc n) (length-argument_names rest)
 
   -- they are dropped, and the body above is asked for
-  asks_above : (next : ℕ) (arguments : Arguments) (all : List (site.Name × Evaluated)) (base : Base) (r : Run) (span : Span) → firsts all ≡ argument_names arguments → effect here next (instruction.TakeAbove (arguments_length arguments) span) (config_at (all_over (seconds all) base) r) ≡ Goes (config_at base r) (Ask (Above span) (Pushed true span))
+  asks_above : (next : ℕ) (arguments : Arguments) (all : List (site.Name × Evaluated)) (base : Base) (r : Run) (span : Span) → firsts all ≡ argument_names arguments → effect here next (instruction.TakeSuper (arguments_length arguments) span) (config_at (all_over (seconds all) base) r) ≡ Goes (config_at base r) (Ask (Above span) (Pushed true span))
   asks_above next arguments all base r span e =
       let c : Config = config_at (all_over (seconds all) base) r in
       ap (λ o. above_in span o c) (topmost-push_all (arguments_length arguments) (seconds all) base.operands (sym (length-argument_names arguments) ∙ length-seconds (argument_names arguments) all e))
@@ -269,7 +269,7 @@ module _ (w : World) (place : Place) (code : Code) (below : Below w place) where
         of_all ce (instruction.MakeMap (keys_in entries) span) (keys_in entries) (λ v all. map_of here.file all span) ip base r has (holds_entries entries r) (entries_runs entries ip base r (stands_front code ip ce _ has)) (λ all r1. refl)
     expr_runs (Super arguments span) ip base r has =
         let ca = arguments_code arguments in
-        let i = instruction.TakeAbove (arguments_length arguments) span in
+        let i = instruction.TakeSuper (arguments_length arguments) span in
         let top : site.Text → Meaning Evaluated = λ t. value_at (val.text t true) span in
         one_behind (λ all. firsts all ≡ argument_names arguments) ca i ip 0 base r has (holds_arguments arguments r) (arguments_runs arguments ip base r (stands_front code ip ca _ has)) (λ at all r1 e. asked_runs w place code (config_at base r1) 7 (Above span) (Pushed true span) r1 top i (call (Above span) r1.vars) (omega arith) at (asks_above (ip + length ca + 1) arguments all base r1 span e) (below (Above span) (Pushed true span) (config_at base r1)) (λ after. done w place code (omega arith)))
     expr_runs (Filter value name arguments span) ip base r has =

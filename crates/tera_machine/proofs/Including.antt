@@ -17,8 +17,8 @@ use Rattle.tera_registry.proofs.Resolved.{first-there-own}
 use Rattle.tera_registry.proofs.Standing.{same-template}
 use Rattle.tera_registry.specs.Templates.{definers_of, Finds}
 use Rattle.tera_registry.specs.declared.templates.FoundTemplate.{FoundTemplate}
-use Rattle.tera_machine.specs.declared.bodies.Outer.{Outer}
-use Rattle.tera_machine.specs.declared.blocks.OpenBlocks.{OpenBlocks}
+use Rattle.tera_machine.specs.declared.block_bodies.SavedBody.{SavedBody}
+use Rattle.tera_machine.specs.declared.open_bodies.OpenBodies.{OpenBodies}
 use Rattle.tera_machine.specs.declared.configuration.Configuration.{Configuration}
 use Rattle.tera_machine.specs.declared.machine.VirtualMachine.{VirtualMachine}
 use Rattle.tera_machine.specs.Config.{config_of}
@@ -73,8 +73,8 @@ module _ (w : World) (p : Place) (name : Name) (span : Span) (v : Variables) whe
 
 -- A body of a template that is taken.
 
-module _ (w : World) {O : Type 0} (m : VirtualMachine O) (file : Name) (name : Name) (span : Span) (b0 : OpenBlocks) (c0 : Configuration) where
-  module _ {found : FoundTemplate} (is : IsTemplate w (place_at m file b0 c0) (AnInclude name span) (config_of c0).run.vars found) {code : Listing} (own : code ≡ listing_of is.entry.0 is.entry.1.tree.nodes) (m1 : VirtualMachine O) (b1 : OpenBlocks) {outer : Outer} {c1 : Configuration} (template : m1.template ≡ Some found) (escapes : m1.autoescape ≡ m.autoescape) (depth : m1.depth ≡ m.depth) (names : names_opened b1.opened.inner ≡ []) (above : definers_of b1.above ≡ []) (included : names_in b1.included.inner ≡ found.name.now ∷ names_in b0.included.inner) (begins : Begins (in_include (around_of c0.scopes) (variables_of c0.scopes)) c0 outer c1) where
+module _ (w : World) {O : Type 0} (m : VirtualMachine O) (file : Name) (name : Name) (span : Span) (b0 : OpenBodies) (c0 : Configuration) where
+  module _ {found : FoundTemplate} (is : IsTemplate w (place_at m file b0 c0) (AnInclude name span) (config_of c0).run.vars found) {code : Listing} (own : code ≡ listing_of is.entry.0 is.entry.1.tree.nodes) (m1 : VirtualMachine O) (b1 : OpenBodies) {outer : SavedBody} {c1 : Configuration} (template : m1.template ≡ Some found) (escapes : m1.autoescape ≡ m.autoescape) (depth : m1.depth ≡ m.depth) (names : names_opened b1.opened.inner ≡ []) (above : definers_of b1.above ≡ []) (included : names_in b1.included.inner ≡ found.name.now ∷ names_in b0.included.inner) (begins : Begins (in_include (around_of c0.scopes) (variables_of c0.scopes)) c0 outer c1) where
     same_place : place_of_include (place_at m file b0 c0) (config_of c0).run.vars is.entry.0 ≡ place_at m1 code.file b1 c1
     same_place =
         let x = in_include (around_of c0.scopes) (variables_of c0.scopes) in

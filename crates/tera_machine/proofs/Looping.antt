@@ -3,7 +3,7 @@ use Rattle.std.proofs.Common.{◌≡◌, ◌≢◌, false, List, [], ◌∷◌, 
 use Rattle.std.specs.Prelude.{IsTrue, ◌↔◌, Bool, true, ℕ, zero, suc, drop, length, slice_get, option_map}
 use Rattle.tera_state.specs.Scope.{Turn, Variables}
 use Rattle.tera_state.specs.Scopes.{GoesRound}
-use Rattle.tera_machine.specs.declared.place.LoopPlace.{LoopPlace}
+use Rattle.tera_machine.specs.declared.loop_place.LoopPlace.{LoopPlace}
 use Rattle.tera_machine.specs.Config.{Config, loops_at}
 use Rattle.tera_machine.specs.Flow.{On, To}
 use Rattle.tera_machine.specs.Did.{Goes, Sticks}

@@ -7,8 +7,8 @@ use Rattle.tera_meaning.specs.Run.{Signal, Answer, Failed, Gave}
 use Rattle.tera_meaning.specs.Rendering.{last_text, block_of}
 use Rattle.tera_machine.specs.Config.{Config}
 use Rattle.tera_machine.specs.Subject.{Means}
-use Rattle.tera_machine.specs.declared.wanted.Wanted.{Wanted}
-use Rattle.tera_machine.specs.Wanted.{is_wanted, noted_name, last_of, text_kept, Noted}
+use Rattle.tera_machine.specs.declared.wanted_block.WantedBlock.{WantedBlock}
+use Rattle.tera_machine.specs.WantedBlock.{is_wanted, noted_name, last_of, text_kept, Noted}
 
 last_then : (wanted : Option Name) (before : Option Text) (xs ys : List (Name × Text)) → last_of wanted before (xs ++ ys) ≡ last_of wanted (last_of wanted before xs) ys
 last_then wanted before [] ys = refl
@@ -19,10 +19,10 @@ none_wanted : (o : Option Text) (bs : List (Name × Text)) → last_of None o bs
 none_wanted o [] = refl
 none_wanted o (b ∷ bs) = none_wanted o bs
 
-pub noted_none : (w : Wanted) → Noted w [] w
+pub noted_none : (w : WantedBlock) → Noted w [] w
 noted_none w = record { name = refl; notes = refl; last = refl }
 
-pub noted_then : {w0 w1 w2 : Wanted} (xs ys : List (Name × Text)) → Noted w0 xs w1 → Noted w1 ys w2 → Noted w0 (xs ++ ys) w2
+pub noted_then : {w0 w1 w2 : WantedBlock} (xs ys : List (Name × Text)) → Noted w0 xs w1 → Noted w1 ys w2 → Noted w0 (xs ++ ys) w2
 noted_then {w0} {w1} {w2} xs ys s t = record {
   name = t.name ∙ s.name;
   notes = t.notes ∙ s.notes;
@@ -30,7 +30,7 @@ noted_then {w0} {w1} {w2} xs ys s t = record {
 }
 
 -- while nothing is noted, the text stays what it was
-pub noted_apart : {w0 w1 w3 w4 : Wanted} {notes : Bool} (since : List (Name × Text)) → w1 ≡ record w0 { notes = false } → Noted w1 since w3 → w4 ≡ record w3 { notes = notes } → notes ≡ w0.notes → Noted w0 [] w4
+pub noted_apart : {w0 w1 w3 w4 : WantedBlock} {notes : Bool} (since : List (Name × Text)) → w1 ≡ record w0 { notes = false } → Noted w1 since w3 → w4 ≡ record w3 { notes = notes } → notes ≡ w0.notes → Noted w0 [] w4
 noted_apart {w0} {w3 = w3} {notes = notes} since e n f same =
     let k : Noted (record w0 { notes = false }) since w3 = subst (λ w. Noted w since w3) e n in
     subst (λ w. Noted w0 [] w) (sym f) (record {
@@ -39,7 +39,7 @@ noted_apart {w0} {w3 = w3} {notes = notes} since e n f same =
       last = k.last ∙ none_wanted (text_kept w0) since;
     })
 
-pub noted_from : {w0 w1 w2 : Wanted} (xs : List (Name × Text)) → w1 ≡ w0 → Noted w1 xs w2 → Noted w0 xs w2
+pub noted_from : {w0 w1 w2 : WantedBlock} (xs : List (Name × Text)) → w1 ≡ w0 → Noted w1 xs w2 → Noted w0 xs w2
 noted_from {w2 = w2} xs e s = subst (λ w. Noted w xs w2) e s
 
 one_more : (b : Bool) (text : Text) (before : Option Text) → unwrap_or (if b then Some text else before) [] ≡ (if b then text else unwrap_or before [])
@@ -53,7 +53,7 @@ last_is block before (b ∷ bs) =
     ∙ ap (λ o. last_text block o bs) (one_more (bytes_eq block b.0) b.1 before)
 
 -- what was kept is the text of the last block of this name
-pub kept_is : (block : Name) {w0 w1 : Wanted} (since blocks : List (Name × Text)) → noted_name w0 ≡ Some block → text_kept w0 ≡ None → blocks ≡ since → Noted w0 since w1 → unwrap_or (text_kept w1) [] ≡ last_text block [] blocks
+pub kept_is : (block : Name) {w0 w1 : WantedBlock} (since blocks : List (Name × Text)) → noted_name w0 ≡ Some block → text_kept w0 ≡ None → blocks ≡ since → Noted w0 since w1 → unwrap_or (text_kept w1) [] ≡ last_text block [] blocks
 kept_is block since blocks name none e noted =
     ap (λ o. unwrap_or o []) (noted.last ∙ ap₂ (λ n o. last_of n o since) name none)
     ∙ last_is block None since

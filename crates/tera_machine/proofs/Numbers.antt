@@ -16,9 +16,9 @@ use Rattle.tera_meaning.specs.Run.{ABlock}
 use Rattle.tera_meaning.specs.Whole.{World, Place, Way, Refuses, Takes, takes_definer, fault_in, way}
 use Rattle.tera_registry.proofs.Numbered.{same-number-same-name}
 use Rattle.tera_registry.specs.Numbers.{first_number}
-use Rattle.tera_machine.specs.declared.asked.Asked.{Asked}
-use Rattle.tera_machine.specs.declared.asked.Asked.TheVariants as asked
-use Rattle.tera_machine.specs.declared.blocks.OpenBlock.{OpenBlock}
+use Rattle.tera_machine.specs.declared.requests.BlockRequest.{BlockRequest}
+use Rattle.tera_machine.specs.declared.requests.BlockRequest.TheVariants as asked
+use Rattle.tera_machine.specs.declared.open_bodies.OpenBlock.{OpenBlock}
 use Rattle.tera_machine.specs.Bodies.{FindsBody, IsNumbered, blocks_opened_by}
 use Rattle.tera_machine.specs.Flow.{block_request}
 use Rattle.tera_machine.specs.Included.{names_opened}
@@ -41,9 +41,9 @@ among_by_number r template name number is (b ∷ opened) are =
     ap₂ (λ x y. x || y) (same_block r template name b.name number b.number is are.0) (among_by_number r template name number is opened are.1)
 
 -- those that are open in a body are open by their numbers
-pub numbered_by : (r : Registry) (template : Option Name) (a : Asked) (number : ℕ) (o : Nested OpenBlock) → IsNumbered r template a number → AreNumbered r template o.inner → AreNumbered r template (blocks_opened_by a number o).inner
+pub numbered_by : (r : Registry) (template : Option Name) (a : BlockRequest) (number : ℕ) (o : Nested OpenBlock) → IsNumbered r template a number → AreNumbered r template o.inner → AreNumbered r template (blocks_opened_by a number o).inner
 numbered_by r template (asked.Block name span) number o is are = (is, are)
-numbered_by r template (asked.Above span) number o is are = are
+numbered_by r template (asked.Super span) number o is are = are
 
 -- How a block is answered.
 
@@ -67,6 +67,6 @@ module _ (w : World) (p : Place) (name : Name) (span : Span) (v : Variables) whe
   takes_first e f = ap₂ answer e f
 
 -- what is told of a request that is refused
-pub told_body : (w : World) (p : Place) (a : Asked) (v : Variables) (told : SeenError) (fault : Fault) → way w p (block_request a) v ≡ Refuses fault → Tells told fault → FindsBody w p a v (Err told)
+pub told_body : (w : World) (p : Place) (a : BlockRequest) (v : Variables) (told : SeenError) (fault : Fault) → way w p (block_request a) v ≡ Refuses fault → Tells told fault → FindsBody w p a v (Err told)
 told_body w p a v None fault e h = tt
 told_body w p a v (Some t) fault e h = e ∙ ap Refuses (sym h)

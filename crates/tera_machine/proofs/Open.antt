@@ -16,14 +16,14 @@ use Rattle.tera_registry.specs.Templates.{AreAmong}
 use Rattle.tera_registry.specs.declared.body.Body.{Body}
 use Rattle.tera_registry.specs.declared.templates.FoundTemplate.{FoundTemplate}
 use Rattle.tera_code.specs.declared.instruction.Instruction.{Instruction}
-use Rattle.tera_machine.specs.declared.asked.Request as requested
-use Rattle.tera_machine.specs.declared.asked.Request.TheVariants as request
-use Rattle.tera_machine.specs.declared.blocks.OpenBlock.{OpenBlock}
-use Rattle.tera_machine.specs.declared.blocks.OpenBlocks.{OpenBlocks}
-use Rattle.tera_machine.specs.declared.bodies.Back.{Back}
-use Rattle.tera_machine.specs.declared.bodies.Back.TheVariants as back
-use Rattle.tera_machine.specs.declared.bodies.Behind.{Behind}
-use Rattle.tera_machine.specs.declared.bodies.Waiting.{Waiting}
+use Rattle.tera_machine.specs.declared.requests.Request as requested
+use Rattle.tera_machine.specs.declared.requests.Request.TheVariants as request
+use Rattle.tera_machine.specs.declared.open_bodies.OpenBlock.{OpenBlock}
+use Rattle.tera_machine.specs.declared.open_bodies.OpenBodies.{OpenBodies}
+use Rattle.tera_machine.specs.declared.block_bodies.BodyEnd.{BodyEnd}
+use Rattle.tera_machine.specs.declared.block_bodies.BodyEnd.TheVariants as back
+use Rattle.tera_machine.specs.declared.block_bodies.ResumePoint.{ResumePoint}
+use Rattle.tera_machine.specs.declared.block_bodies.Waiting.{Waiting}
 use Rattle.tera_machine.specs.declared.configuration.Configuration.{Configuration}
 use Rattle.tera_machine.specs.declared.machine.Flow as declared
 use Rattle.tera_machine.specs.declared.machine.Flow.TheVariants as flow
@@ -47,7 +47,7 @@ use Rattle.tera_machine.proofs.Still.{Seeks, seeks}
 use Rattle.tera_machine.proofs.Taking.{body_within, came_back, body_failed, refused, inner_within, can_leave, body_broke}
 use Rattle.tera_machine.proofs.Took.{place_same, stays_then, did_still, at_place, ends_at, no_captures}
 
-pub stays_here : (b : OpenBlocks) (c : Configuration) → Stays b c b c
+pub stays_here : (b : OpenBodies) (c : Configuration) → Stays b c b c
 stays_here b c = record {
   opened = refl;
   above = refl;
@@ -67,7 +67,7 @@ abbrev pub WholeRan : {O : Type 0} → World → Beginning O → Result (Unit {0
 WholeRan w o r c n = Ran w (place_at o.machine o.code.file o.blocks o.configuration) o.code.code (config_of o.configuration) r c (n - o.count)
 
 -- a fault in a body is a fault of the whole
-all_broke : {O : Type 0} (most : ℕ) (w : World) (o : Beginning O) (rs : List Waiting) (m : VirtualMachine O) (code : Listing) (b : OpenBlocks) (c : Configuration) (n : ℕ) (f : Fault) (k : ℕ) → n ≤ k → Came most w o rs m code b c n → Ends w (place_at m code.file b c) code.code 0 (config_of c) (Broken f (k - n)) → WholeEnds w o (Broken f (k - o.count))
+all_broke : {O : Type 0} (most : ℕ) (w : World) (o : Beginning O) (rs : List Waiting) (m : VirtualMachine O) (code : Listing) (b : OpenBodies) (c : Configuration) (n : ℕ) (f : Fault) (k : ℕ) → n ≤ k → Came most w o rs m code b c n → Ends w (place_at m code.file b c) code.code 0 (config_of c) (Broken f (k - n)) → WholeEnds w o (Broken f (k - o.count))
 all_broke {O} most w o [] m code b c n f k l e x =
     subst (λ (o : Beginning O). WholeEnds w o (Broken f (k - o.count))) (sym e) x
 all_broke most w o (r ∷ rs) m code b c n f k l (y, rest) x =
@@ -83,7 +83,7 @@ pub lacked_all : {O : Type 0} (w : World) (o : Beginning O) (r : SeenError) (c :
 lacked_all w o r c n e = subst (λ r. WholeRan w o (Err r) c n) (sym e) tt
 
 -- a run begins
-pub begins : (most : ℕ) (w : World) {O : Type 0} (m : VirtualMachine O) (code : Listing) (b : OpenBlocks) (c : Configuration) (n : ℕ) → IsLinked m w → EndsWithin w (place_at m code.file b c) code.code 0 (config_of c) (most - n) → Running most w (record { machine = m; code = code; blocks = b; configuration = c; count = n }) [] m code 0 b c n
+pub begins : (most : ℕ) (w : World) {O : Type 0} (m : VirtualMachine O) (code : Listing) (b : OpenBodies) (c : Configuration) (n : ℕ) → IsLinked m w → EndsWithin w (place_at m code.file b c) code.code 0 (config_of c) (most - n) → Running most w (record { machine = m; code = code; blocks = b; configuration = c; count = n }) [] m code 0 b c n
 begins most w m code b c n linked within = record {
   counted = omega arith;
   bounded = λ h. h;
@@ -98,11 +98,11 @@ begins most w m code b c n linked within = record {
 }
 
 -- the bodies that wait are the same, and one more, named otherwise
-came_so : {O : Type 0} {most : ℕ} {w : World} (o : Beginning O) (rs : List Waiting) {r : Waiting} {p1 : Place} {code1 : Code} {b1 : OpenBlocks} {c1 : Configuration} {n1 : ℕ} {m m' : VirtualMachine O} {code code' : Listing} → m' ≡ m → code' ≡ code → (x : Waits most w m code r p1 code1 b1 c1 n1) × Came most w o rs m code x.began x.start x.first → (x : Waits most w m' code' r p1 code1 b1 c1 n1) × Came most w o rs m' code' x.began x.start x.first
+came_so : {O : Type 0} {most : ℕ} {w : World} (o : Beginning O) (rs : List Waiting) {r : Waiting} {p1 : Place} {code1 : Code} {b1 : OpenBodies} {c1 : Configuration} {n1 : ℕ} {m m' : VirtualMachine O} {code code' : Listing} → m' ≡ m → code' ≡ code → (x : Waits most w m code r p1 code1 b1 c1 n1) × Came most w o rs m code x.began x.start x.first → (x : Waits most w m' code' r p1 code1 b1 c1 n1) × Came most w o rs m' code' x.began x.start x.first
 came_so {most = most} {w} o rs {r} {p1} {code1} {b1} {c1} {n1} {m} {m'} {code} {code'} e f x =
     subst (λ m'. (x : Waits most w m' code' r p1 code1 b1 c1 n1) × Came most w o rs m' code' x.began x.start x.first) (sym e) (subst (λ code'. (x : Waits most w m code' r p1 code1 b1 c1 n1) × Came most w o rs m code' x.began x.start x.first) (sym f) x)
 
-module _ {O : Type 0} (engine : O → Engine) {most : ℕ} {w : World} {o : Beginning O} (right : engine_of engine o.machine ≡ w.registry.engine) {rs : List Waiting} {m : VirtualMachine O} {code : Listing} {ip : ℕ} {b : OpenBlocks} {c : Configuration} {n : ℕ} (g : Running most w o rs m code ip b c n) where
+module _ {O : Type 0} (engine : O → Engine) {most : ℕ} {w : World} {o : Beginning O} (right : engine_of engine o.machine ≡ w.registry.engine) {rs : List Waiting} {m : VirtualMachine O} {code : Listing} {ip : ℕ} {b : OpenBodies} {c : Configuration} {n : ℕ} (g : Running most w o rs m code ip b c n) where
   -- where the body stands that runs, and what is fixed there
   abbrev place : Place
   place = place_at m code.file g.began g.start
@@ -205,11 +205,11 @@ module _ {O : Type 0} (engine : O → Engine) {most : ℕ} {w : World} {o : Begi
           -- it is what that takes
           pub takes_requested : (r : requested.Request) → q ≡ request_of r → TakesRequested own (at + 1) r
           takes_requested (request.Block name span) e = tt
-          takes_requested (request.Above span) e = tt
+          takes_requested (request.Super span) e = tt
           takes_requested (request.Include name span) e = takes_before (λ sought. subst (λ q. Seeks (target_in last.instruction) q) e sought)
           takes_requested (request.Component a) e = takes_before (λ sought. subst (λ q. Seeks (target_in last.instruction) q) e sought)
 
-          pub take_broke : (m1 : VirtualMachine O) (b1 : OpenBlocks) (rs1 : List Waiting) (r : SeenError) (c3 : Configuration) → TakesBody w m own (at + 1) q u b c2 rs m1 (Err r) b1 c3 rs1 → WholeRan w o (Err r) (config_of c3) n2
+          pub take_broke : (m1 : VirtualMachine O) (b1 : OpenBodies) (rs1 : List Waiting) (r : SeenError) (c3 : Configuration) → TakesBody w m own (at + 1) q u b c2 rs m1 (Err r) b1 c3 rs1 → WholeRan w o (Err r) (config_of c3) n2
           take_broke m1 b1 rs1 None c3 h = tt
           take_broke m1 b1 rs1 (Some k) c3 h =
               let counted = last.progress.counted in
@@ -220,7 +220,7 @@ module _ {O : Type 0} (engine : O → Engine) {most : ℕ} {w : World} {o : Begi
               all_broke most w o rs m code g.began g.start g.first k n2 l g.came (body_failed asked k n2 here (ends_at same_place (refused k (n2 - n2) z refuses)))
 
           -- it is entered, and this one waits
-          module _ {next : ℕ} {m1 : VirtualMachine O} {body : Body} {b1 : OpenBlocks} {c3 : Configuration} {rs1 : List Waiting} (t : Taken w m own next q u b c2 rs m1 body b1 c3 rs1) (behind : next ≡ at + 1) (belong : Belong w m own b) where
+          module _ {next : ℕ} {m1 : VirtualMachine O} {body : Body} {b1 : OpenBodies} {c3 : Configuration} {rs1 : List Waiting} (t : Taken w m own next q u b c2 rs m1 body b1 c3 rs1) (behind : next ≡ at + 1) (belong : Belong w m own b) where
             abbrev inner : Place
             inner = place_at m1 (code_of body).file b1 c3
 
@@ -265,13 +265,13 @@ module _ {O : Type 0} (engine : O → Engine) {most : ℕ} {w : World} {o : Begi
                   stays = stays_here b1 c3;
                 })
 
-same_objects : {O : Type 0} (b : Back) (m : VirtualMachine O) → (machine_by b m).objects.now ≡ m.objects.now
-same_objects (back.Taken a) m = refl
-same_objects (back.Included around template) m = refl
-same_objects (back.Called around included template depth safe span) m = refl
+same_objects : {O : Type 0} (b : BodyEnd) (m : VirtualMachine O) → (machine_by b m).objects.now ≡ m.objects.now
+same_objects (back.Block a) m = refl
+same_objects (back.Include around template) m = refl
+same_objects (back.Component around included template depth safe span) m = refl
 
 -- the end of the code of a body
-module _ {O : Type 0} {most : ℕ} {w : World} {o : Beginning O} {rs : List Waiting} {m : VirtualMachine O} {code : Listing} {ip : ℕ} {b : OpenBlocks} {c : Configuration} {n n2 : ℕ} (g : Running most w o rs m code ip b c n) (none : slice_get code.code ip ≡ None) (same : n2 ≡ n) where
+module _ {O : Type 0} {most : ℕ} {w : World} {o : Beginning O} {rs : List Waiting} {m : VirtualMachine O} {code : Listing} {ip : ℕ} {b : OpenBodies} {c : Configuration} {n n2 : ℕ} (g : Running most w o rs m code ip b c n) (none : slice_get code.code ip ≡ None) (same : n2 ≡ n) where
   over : Ends w (place_at m code.file g.began g.start) code.code 0 (config_of g.start) (Finished (config_of c) (n2 - g.first))
   over = finished g.progress none same
 
@@ -310,7 +310,7 @@ module _ {O : Type 0} {most : ℕ} {w : World} {o : Beginning O} {rs : List Wait
         λ e. may_end (no_captures (config_of c).loops (config_of c).captures x.request x.use' (config_of x.configuration) (config_of c) e)
 
     -- the body that waited goes on
-    module _ {b4 : OpenBlocks} {c4 : Configuration} (closed : BodyEnds w (place_at (machine_again r m) (code_of r.body).file x.blocks x.configuration) x.request x.use' (config_of x.configuration) (Finished (config_of c4) (n2 - g.first)) × Stays x.blocks x.configuration b4 c4) where
+    module _ {b4 : OpenBodies} {c4 : Configuration} (closed : BodyEnds w (place_at (machine_again r m) (code_of r.body).file x.blocks x.configuration) x.request x.use' (config_of x.configuration) (Finished (config_of c4) (n2 - g.first)) × Stays x.blocks x.configuration b4 c4) where
       onward : Advance most w (place_at (machine_again r m) (code_of r.body).file x.began x.start) (code_of r.body).code (config_of x.start) x.first (x.ip + 1) (config_of c4) n2
       onward =
           let counted = g.progress.counted in
@@ -332,7 +332,7 @@ module _ {O : Type 0} {most : ℕ} {w : World} {o : Beginning O} {rs : List Wait
       by [] came = tt
       by (r ∷ rs) came = came.0.keeps.apart b c g.stays
 
-  module _ {m4 : VirtualMachine O} {behind : Behind} {open4 : List Waiting} {b4 : OpenBlocks} {c4 : Configuration} (t : Resumes m rs b c behind m4 open4 b4 c4) where
+  module _ {m4 : VirtualMachine O} {behind : ResumePoint} {open4 : List Waiting} {b4 : OpenBodies} {c4 : Configuration} (t : Resumes m rs b c behind m4 open4 b4 c4) where
     abbrev outer : Waiting
     outer = t.waiting
 

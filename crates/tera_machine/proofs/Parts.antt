@@ -17,7 +17,7 @@ use Rattle.tera_state.proofs.Walked.{list_of_vals}
 use Rattle.tera_operators.specs.Operand.{Evaluated, placed}
 use Rattle.tera_code.specs.declared.instruction.Instruction.{Instruction}
 use Rattle.tera_code.specs.declared.instruction.Instruction.TheVariants as instruction
-use Rattle.tera_code.specs.Asked.{started_loop, ended_loop, is_next_turn}
+use Rattle.tera_code.specs.InstructionParts.{started_loop, ended_loop, is_next_turn}
 use Rattle.tera_code.specs.Code.{Code}
 use Rattle.tera_code.specs.Printing.{puts, puts_up_to, closes_at, printing, printing_loop_at}
 use Rattle.tera_code.proofs.Parts.{both, opens_by, parts_end, puts_by}

@@ -16,7 +16,7 @@ use Rattle.tera_state.specs.Scope.{look}
 use Rattle.tera_operators.specs.Operand.{Evaluated}
 use Rattle.tera_operators.specs.Accesses.{attribute_of}
 use Rattle.tera_meaning.specs.Here.{Here}
-use Rattle.tera_code.specs.Asked.{Compares}
+use Rattle.tera_code.specs.InstructionParts.{Compares}
 use Rattle.tera_code.specs.declared.comparison.Comparison.{Comparison}
 use Rattle.tera_code.specs.declared.instruction.Instruction.{Instruction}
 use Rattle.tera_code.specs.declared.instruction.Instruction.TheVariants as instruction

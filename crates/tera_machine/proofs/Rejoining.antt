@@ -8,8 +8,8 @@ use Rattle.tera_state.specs.declared.scopes.Scopes.{Scopes}
 use Rattle.tera_meaning.specs.Run.{Run, Request}
 use Rattle.tera_meaning.specs.Whole.{World, Place, left_of}
 use Rattle.tera_code.specs.Code.{Code}
-use Rattle.tera_machine.specs.declared.bodies.Outer.{Outer}
-use Rattle.tera_machine.specs.declared.blocks.OpenBlocks.{OpenBlocks}
+use Rattle.tera_machine.specs.declared.block_bodies.SavedBody.{SavedBody}
+use Rattle.tera_machine.specs.declared.open_bodies.OpenBodies.{OpenBodies}
 use Rattle.tera_machine.specs.declared.configuration.Configuration.{Configuration}
 use Rattle.tera_machine.specs.Config.{Loop, config_of, loops_at}
 use Rattle.tera_machine.specs.Flow.{Use, Written, Pushed}
@@ -17,7 +17,7 @@ use Rattle.tera_machine.specs.Effect.{beneath_in}
 use Rattle.tera_machine.specs.Exec.{Finished, used, left, left_in, Ends, BodyEnds}
 use Rattle.tera_machine.specs.Advance.{BodyWithin}
 use Rattle.tera_machine.specs.Bodies.{Entered, Stays}
-use Rattle.tera_machine.specs.Wanted.{Noted}
+use Rattle.tera_machine.specs.WantedBlock.{Noted}
 use Rattle.tera_machine.specs.Apart.{Begins, Rejoins, joined_in}
 use Rattle.tera_machine.proofs.Taking.{can_leave, body_done}
 use Rattle.tera_machine.proofs.Took.{innermost_of, outer_of}
@@ -46,7 +46,7 @@ abbrev pub KeepsText : Request → Type 0
 KeepsText q = (v : Variables) (r : Run) → left_of q v r ≡ record { vars = v; text = r.text; blocks = [] }
 
 -- a body that stands in a state of its own
-module _ {c0 : Configuration} {c1 : Configuration} {inside : Around} {outer : Outer} (begins : Begins inside c0 outer c1) (seen : inside.above ≡ reading c0.scopes ∷ (around_of c0.scopes).above) {b1 b3 : OpenBlocks} (c3 : Configuration) (stay : Stays b1 c1 b3 c3) where
+module _ {c0 : Configuration} {c1 : Configuration} {inside : Around} {outer : SavedBody} (begins : Begins inside c0 outer c1) (seen : inside.above ≡ reading c0.scopes ∷ (around_of c0.scopes).above) {b1 b3 : OpenBodies} (c3 : Configuration) (stay : Stays b1 c1 b3 c3) where
   state_above : (around_of c3.scopes).above ≡ reading c0.scopes ∷ (around_of c0.scopes).above
   state_above = ap (λ (a : Around). a.above) (stay.around ∙ begins.around) ∙ seen
 
@@ -75,7 +75,7 @@ module _ {c0 : Configuration} {c1 : Configuration} {inside : Around} {outer : Ou
     same_loops = ap₂ (λ ps tss. loops_at ps tss) begins.places (ap innermost_of coming_back)
 
     -- the body around goes on as it was, where the same is open as before
-    pub apart_stayed : (b0 b4 : OpenBlocks) → b4.opened ≡ b0.opened → b4.above ≡ b0.above → b4.included ≡ b0.included → Noted b0.wanted [] b4.wanted → Stays b0 c0 b4 c4
+    pub apart_stayed : (b0 b4 : OpenBodies) → b4.opened ≡ b0.opened → b4.above ≡ b0.above → b4.included ≡ b0.included → Noted b0.wanted [] b4.wanted → Stays b0 c0 b4 c4
     apart_stayed b0 b4 opened above included noted = record {
       opened = opened;
       above = above;

@@ -13,7 +13,7 @@ use Rattle.tera_code.specs.declared.instruction.Instruction.{Instruction}
 use Rattle.tera_code.specs.Code.{Code}
 use Rattle.tera_machine.specs.declared.configuration.Configuration.{Configuration}
 use Rattle.tera_machine.specs.declared.machine.VirtualMachine.{VirtualMachine}
-use Rattle.tera_machine.specs.declared.blocks.OpenBlocks.{OpenBlocks}
+use Rattle.tera_machine.specs.declared.open_bodies.OpenBodies.{OpenBodies}
 use Rattle.tera_machine.specs.declared.machine.Flow as declared
 use Rattle.tera_machine.specs.declared.machine.Flow.TheVariants as flow
 use Rattle.tera_machine.specs.Config.{Config}
@@ -31,7 +31,7 @@ within_cond m true x h = (refl, h)
 within_cond m false x h = absurd h
 
 -- where the machine stands with an engine is where the body stands in the world
-pub here_is : {O : Type 0} (engine : O → Engine) (w : World) (m : VirtualMachine O) (file file0 : Name) (blocks0 : OpenBlocks) (c c0 : Configuration) → engine_of engine m ≡ w.registry.engine → file ≡ file0 → around_of c.scopes ≡ around_of c0.scopes → here_of engine m file c ≡ here_at w (place_at m file0 blocks0 c0)
+pub here_is : {O : Type 0} (engine : O → Engine) (w : World) (m : VirtualMachine O) (file file0 : Name) (blocks0 : OpenBodies) (c c0 : Configuration) → engine_of engine m ≡ w.registry.engine → file ≡ file0 → around_of c.scopes ≡ around_of c0.scopes → here_of engine m file c ≡ here_at w (place_at m file0 blocks0 c0)
 here_is engine w m file file0 blocks0 c c0 e f a =
     ap (λ (e : Engine). record { file = file; around = around_of c.scopes; autoescape = m.autoescape; engine = e }) e
     ∙ ap₂ (λ name around. record { file = name; around = around; autoescape = m.autoescape; engine = w.registry.engine }) f a

@@ -17,7 +17,7 @@ use Rattle.tera_operators.specs.Literals.{array_of, map_entries, map_of}
 use Rattle.tera_operators.specs.Calls.{filter_applied_by, test_applied_by, function_called_by}
 use Rattle.tera_code.specs.Targets.{Target, TemplateNamed, ComponentNamed, target_in}
 use Rattle.tera_code.specs.declared.instruction.Instruction.{Instruction}
-use Rattle.tera_code.specs.declared.instruction.Instruction.TheVariants.{WriteText, WriteTop, WriteName, LoadConst, LoadName, LoadAttribute, LoadItem, Slice, Not, Negate, Binary, MakeArray, MakeMap, Jump, PopJumpIfFalse, JumpIfFalseOrPop, JumpIfTrueOrPop, Store, LoadContext, StartLoop, NextTurn, EndLoop, Keep, EndComprehension, StartCapture, EndCapture, LeaveLoop, LeaveTurn, TakeBlock, TakeAbove, TakeInclude, TakeComponent, ApplyFilter, ApplyTest, CallFunction}
+use Rattle.tera_code.specs.declared.instruction.Instruction.TheVariants.{WriteText, WriteTop, WriteName, LoadConst, LoadName, LoadAttribute, LoadItem, Slice, Not, Negate, Binary, MakeArray, MakeMap, Jump, PopJumpIfFalse, JumpIfFalseOrPop, JumpIfTrueOrPop, Store, LoadContext, StartLoop, NextTurn, EndLoop, Keep, EndComprehension, StartCapture, EndCapture, LeaveLoop, LeaveTurn, TakeBlock, TakeSuper, TakeInclude, TakeComponent, ApplyFilter, ApplyTest, CallFunction}
 use Rattle.tera_machine.specs.Config.{Config, Loop}
 use Rattle.tera_machine.specs.Flow.{Flow, Use, On, Skip, To, Out, Ask}
 use Rattle.tera_machine.specs.Did.{Did, Goes, Faults, Sticks, holding, outcome}

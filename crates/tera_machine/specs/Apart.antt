@@ -5,7 +5,7 @@ use Rattle.tera_errors.specs.Site.{Name, Text}
 use Rattle.tera_values.specs.Val.{text}
 use Rattle.tera_state.specs.Scope.{Around, Variables, nothing_set}
 use Rattle.tera_state.specs.Scopes.{variables_of, around_of, coming_of, coming_around}
-use Rattle.tera_machine.specs.declared.bodies.Outer.{Outer}
+use Rattle.tera_machine.specs.declared.block_bodies.SavedBody.{SavedBody}
 use Rattle.tera_machine.specs.declared.configuration.Configuration.{Configuration}
 use Rattle.tera_machine.specs.Config.{Config, Loop, config_of, loops_at}
 use Rattle.tera_machine.specs.Flow.{Use, Written, Pushed}
@@ -13,7 +13,7 @@ use Rattle.tera_machine.specs.Exec.{entered}
 
 -- the body begins, with this around its variables, and what it does not see is kept for the body
 -- around
-pub record Begins (inside : Around) (c0 : Configuration) (outer : Outer)
+pub record Begins (inside : Around) (c0 : Configuration) (outer : SavedBody)
     (c : Configuration) : Type 0 where
   pub config : config_of c ≡ entered nothing_set (config_of c0)
   pub around : around_of c.scopes ≡ inside
@@ -41,7 +41,7 @@ joined_in (Pushed safe span) (t ∷ ts) v blocks loops c = record {
 }
 
 -- the body ended, and the body around goes on
-pub record Rejoins (u : Use) (c0 : Configuration) (outer : Outer) (c : Configuration) : Type 0 where
+pub record Rejoins (u : Use) (c0 : Configuration) (outer : SavedBody) (c : Configuration) : Type 0 where
   pub config : config_of c
       ≡ joined_in u (config_of c0).captures (variables_of c.scopes) outer.ended.all
       (loops_at outer.places (coming_of c.scopes)) (config_of c0)

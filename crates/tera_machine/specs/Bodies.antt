@@ -14,45 +14,45 @@ use Rattle.tera_registry.specs.HandedOut.{code_of}
 use Rattle.tera_registry.specs.Templates.{definers_of}
 use Rattle.tera_registry.specs.declared.templates.Definer.{Definer as Nearest}
 use Rattle.tera_registry.specs.declared.templates.Definers.{Definers}
-use Rattle.tera_machine.specs.declared.asked.Asked.{Asked}
-use Rattle.tera_machine.specs.declared.asked.Asked.TheVariants as asked
-use Rattle.tera_machine.specs.declared.bodies.Inside.{Inside}
-use Rattle.tera_machine.specs.declared.bodies.Outer.{Outer}
+use Rattle.tera_machine.specs.declared.requests.BlockRequest.{BlockRequest}
+use Rattle.tera_machine.specs.declared.requests.BlockRequest.TheVariants as asked
+use Rattle.tera_machine.specs.declared.block_bodies.EnteredBlock.{EnteredBlock}
+use Rattle.tera_machine.specs.declared.block_bodies.SavedBody.{SavedBody}
 use Rattle.tera_machine.specs.declared.configuration.Configuration.{Configuration}
 use Rattle.tera_machine.specs.declared.machine.VirtualMachine.{VirtualMachine}
-use Rattle.tera_machine.specs.declared.blocks.OpenBlock.{OpenBlock}
-use Rattle.tera_machine.specs.declared.blocks.OpenBlocks.{OpenBlocks}
+use Rattle.tera_machine.specs.declared.open_bodies.OpenBlock.{OpenBlock}
+use Rattle.tera_machine.specs.declared.open_bodies.OpenBodies.{OpenBodies}
 use Rattle.tera_machine.specs.Config.{Config, Loop, config_of, loops_at}
 use Rattle.tera_machine.specs.Flow.{Use, block_request, block_use}
 use Rattle.tera_machine.specs.Effect.{beneath}
 use Rattle.tera_machine.specs.Exec.{entered, used}
 use Rattle.tera_machine.specs.OpenThings.{Nested, one_more, one_fewer}
 use Rattle.tera_machine.specs.Subject.{first_number_for, place_at}
-use Rattle.tera_machine.specs.Wanted.{ended_by, Noted}
+use Rattle.tera_machine.specs.WantedBlock.{ended_by, Noted}
 
 -- the names of the blocks that are open in a body, by those that are open where it is asked for
-abbrev pub opened_by : Asked → List Name → List Name
+abbrev pub opened_by : BlockRequest → List Name → List Name
 opened_by (asked.Block name span) names = name.now ∷ names
-opened_by (asked.Above span) names = names
+opened_by (asked.Super span) names = names
 
 -- these blocks, with the number of the body, and the other way round
-abbrev pub blocks_opened_by : Asked → ℕ → Nested OpenBlock → Nested OpenBlock
+abbrev pub blocks_opened_by : BlockRequest → ℕ → Nested OpenBlock → Nested OpenBlock
 blocks_opened_by (asked.Block name span) number blocks =
     one_more (record { name = name.now; number = number }) blocks
-blocks_opened_by (asked.Above span) number blocks = blocks
+blocks_opened_by (asked.Super span) number blocks = blocks
 
-abbrev pub blocks_closed_by : Asked → Nested OpenBlock → Nested OpenBlock
+abbrev pub blocks_closed_by : BlockRequest → Nested OpenBlock → Nested OpenBlock
 blocks_closed_by (asked.Block name span) blocks = one_fewer blocks
-blocks_closed_by (asked.Above span) blocks = blocks
+blocks_closed_by (asked.Super span) blocks = blocks
 
 -- a block that is asked for is taken by the number that it has for the template
-abbrev pub IsNumbered : Registry → Option Name → Asked → ℕ → Type 0
+abbrev pub IsNumbered : Registry → Option Name → BlockRequest → ℕ → Type 0
 IsNumbered r template (asked.Block name span) number =
     first_number_for r template name.now ≡ Some number
-IsNumbered r template (asked.Above span) number = Unit {0}
+IsNumbered r template (asked.Super span) number = Unit {0}
 
 -- the body to take, which this definer has
-pub record IsBody (w : World) (p : Place) (a : Asked) (v : Variables)
+pub record IsBody (w : World) (p : Place) (a : BlockRequest) (v : Variables)
     (nearest : Nearest) : Type 0 where
   pub definer : Definer
   pub takes : way w p (block_request a) v
@@ -64,7 +64,7 @@ pub record IsBody (w : World) (p : Place) (a : Asked) (v : Variables)
   pub code : code_of nearest.body ≡ listing_of definer.file definer.body
 
 -- the body is found, or the request is refused, unless memory was refused
-abbrev pub FindsBody : World → Place → Asked → Variables → Result Nearest SeenError → Type 0
+abbrev pub FindsBody : World → Place → BlockRequest → Variables → Result Nearest SeenError → Type 0
 FindsBody w p a v (Ok nearest) = IsBody w p a v nearest
 FindsBody w p a v (Err None) = Unit {0}
 FindsBody w p a v (Err (Some fault)) = way w p (block_request a) v ≡ Refuses fault
@@ -79,8 +79,8 @@ pub record Entered (w : World) (p : Place) (q : Request) (c : Config) (p' : Plac
   pub config : c' ≡ entered vars c
 
 -- what is kept for the body around
-pub record Keeps (a : Asked) (inside : Inside) (blocks0 : OpenBlocks) (c0 : Configuration)
-    (blocks : OpenBlocks) (c : Configuration) : Type 0 where
+pub record Keeps (a : BlockRequest) (inside : EnteredBlock) (blocks0 : OpenBodies) (c0 : Configuration)
+    (blocks : OpenBodies) (c : Configuration) : Type 0 where
   pub opened : blocks.opened ≡ blocks_opened_by a inside.definer.number blocks0.opened
   pub above : inside.above ≡ blocks0.above
   pub wanted : blocks.wanted ≡ blocks0.wanted
@@ -90,8 +90,8 @@ pub record Keeps (a : Asked) (inside : Inside) (blocks0 : OpenBlocks) (c0 : Conf
   pub none : c.places ≡ []
   pub scopes : c.scopes ≡ c0.scopes
 
-abbrev pub Enters : {O : Type 0} → World → VirtualMachine O → Name → Asked → OpenBlocks
-    → Configuration → Result Inside SeenError → OpenBlocks → Configuration → Type 0
+abbrev pub Enters : {O : Type 0} → World → VirtualMachine O → Name → BlockRequest → OpenBodies
+    → Configuration → Result EnteredBlock SeenError → OpenBodies → Configuration → Type 0
 Enters w m file a blocks0 c0 (Ok inside) blocks c =
     Entered w (place_at m file blocks0 c0) (block_request a) (config_of c0)
     (place_at m (code_of inside.definer.body).file blocks c) (code_of inside.definer.body).code
@@ -115,8 +115,8 @@ closed_in (t ∷ ts) q u blocks loops c =
 
 -- such a body is left, with those who define the block above the body around it, and what that has to
 -- itself
-pub record Leaves (a : Asked) (outside : Definers) (outer : Outer) (blocks0 : OpenBlocks)
-    (c0 : Configuration) (blocks : OpenBlocks) (c : Configuration) : Type 0 where
+pub record Leaves (a : BlockRequest) (outside : Definers) (outer : SavedBody) (blocks0 : OpenBodies)
+    (c0 : Configuration) (blocks : OpenBodies) (c : Configuration) : Type 0 where
   pub config : config_of c
       ≡ closed_in (config_of c0).captures (block_request a) (block_use a) outer.ended.all
       (loops_at outer.places (coming_of c0.scopes)) (config_of c0)
@@ -128,7 +128,7 @@ pub record Leaves (a : Asked) (outside : Definers) (outer : Outer) (blocks0 : Op
   pub scopes : c.scopes ≡ c0.scopes
 
 -- what stays while a body runs, and the blocks that ended in it
-pub record Stays (blocks0 : OpenBlocks) (c0 : Configuration) (blocks : OpenBlocks)
+pub record Stays (blocks0 : OpenBodies) (c0 : Configuration) (blocks : OpenBodies)
     (c : Configuration) : Type 0 where
   pub opened : blocks.opened ≡ blocks0.opened
   pub above : blocks.above ≡ blocks0.above

@@ -11,7 +11,7 @@ use Rattle.tera_meaning.specs.Whole.{World, Place, Refuses, Takes, way, place_of
 use Rattle.tera_code.specs.Listing.{Listing}
 use Rattle.tera_code.specs.Code.{listing_of}
 use Rattle.tera_registry.specs.HandedOut.{code_of}
-use Rattle.tera_machine.specs.declared.components.Called.{Called}
+use Rattle.tera_machine.specs.declared.components.ComponentBody.{ComponentBody}
 use Rattle.tera_machine.specs.Subject.{IsOf}
 
 -- a component as it is kept: what it is given, and its code
@@ -20,7 +20,7 @@ kept_meant c = (definition_of c.signature, listing_of c.file c.body)
 
 -- the component's code, the context of the call, and how many components are open then
 pub record IsCalled (w : World) (p : Place) (q : Request) (v : Variables)
-    (called : Called) : Type 0 where
+    (called : ComponentBody) : Type 0 where
   pub file : Name
   pub body : Nodes
   pub takes : way w p q v
@@ -31,7 +31,7 @@ pub record IsCalled (w : World) (p : Place) (q : Request) (v : Variables)
   pub depth : called.depth ≡ suc p.depth
 
 -- the component is called, or the request is refused, unless memory was refused
-abbrev pub Calls : World → Place → Request → Variables → Result Called SeenError → Type 0
+abbrev pub Calls : World → Place → Request → Variables → Result ComponentBody SeenError → Type 0
 Calls w p q v (Ok called) = IsCalled w p q v called
 Calls w p q v (Err None) = Unit {0}
 Calls w p q v (Err (Some fault)) = way w p q v ≡ Refuses fault

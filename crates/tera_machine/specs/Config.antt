@@ -8,7 +8,7 @@ use Rattle.tera_state.specs.Scopes.{variables_of, coming_of}
 use Rattle.tera_operators.specs.Operand.{Evaluated}
 use Rattle.tera_meaning.specs.Run.{Run}
 use Rattle.tera_machine.specs.declared.configuration.Configuration.{Configuration}
-use Rattle.tera_machine.specs.declared.place.LoopPlace.{LoopPlace}
+use Rattle.tera_machine.specs.declared.loop_place.LoopPlace.{LoopPlace}
 
 -- an open loop of the body that runs: where the loop's own body starts, how long that is, the turns
 -- to come, and what a comprehension kept so far

@@ -23,7 +23,7 @@ use Rattle.tera_meaning.specs.Here.{Here, filtered_at, tested_at, called_at}
 use Rattle.tera_meaning.specs.Run.{ABlock, Above, AnInclude, AComponent}
 use Rattle.tera_meaning.specs.Meaning.{output}
 use Rattle.tera_code.specs.declared.instruction.Instruction.{Instruction}
-use Rattle.tera_code.specs.declared.instruction.Instruction.TheVariants.{WriteText, WriteTop, WriteName, LoadConst, LoadName, LoadAttribute, LoadItem, Slice, Not, Negate, Binary, MakeArray, MakeMap, Jump, PopJumpIfFalse, JumpIfFalseOrPop, JumpIfTrueOrPop, Store, LoadContext, StartLoop, NextTurn, EndLoop, Keep, EndComprehension, StartCapture, EndCapture, LeaveLoop, LeaveTurn, TakeBlock, TakeAbove, TakeInclude, TakeComponent, ApplyFilter, ApplyTest, CallFunction}
+use Rattle.tera_code.specs.declared.instruction.Instruction.TheVariants.{WriteText, WriteTop, WriteName, LoadConst, LoadName, LoadAttribute, LoadItem, Slice, Not, Negate, Binary, MakeArray, MakeMap, Jump, PopJumpIfFalse, JumpIfFalseOrPop, JumpIfTrueOrPop, Store, LoadContext, StartLoop, NextTurn, EndLoop, Keep, EndComprehension, StartCapture, EndCapture, LeaveLoop, LeaveTurn, TakeBlock, TakeSuper, TakeInclude, TakeComponent, ApplyFilter, ApplyTest, CallFunction}
 use Rattle.tera_code.specs.declared.call_kind.CallKind.{CallKind}
 use Rattle.tera_code.specs.declared.call_kind.CallKind.TheVariants as kind
 use Rattle.tera_machine.specs.declared.configuration.Configuration.{Configuration}
@@ -308,12 +308,12 @@ Does does before result after =
     × OnOk result (beneath after ≡ beneath before))
 
 -- what goes on at the next instruction, unless memory was refused
-abbrev pub going_on : {E : Type 0} → Result (Unit {0}) E → Result declared.Flow SeenError
-going_on (Ok u) = Ok declared_flow.On
-going_on (Err e) = Err None
+abbrev pub continue_after : {E : Type 0} → Result (Unit {0}) E → Result declared.Flow SeenError
+continue_after (Ok u) = Ok declared_flow.On
+continue_after (Err e) = Err None
 
 -- the same of a value, which may be undefined: that is a fault there
-abbrev pub going_on_if : {E : Type 0} → Site → Result Bool E → Result declared.Flow SeenError
-going_on_if site (Ok true) = Ok declared_flow.On
-going_on_if site (Ok false) = Err (Some (rendering_error site))
-going_on_if site (Err e) = Err None
+abbrev pub continue_if_written : {E : Type 0} → Site → Result Bool E → Result declared.Flow SeenError
+continue_if_written site (Ok true) = Ok declared_flow.On
+continue_if_written site (Ok false) = Err (Some (rendering_error site))
+continue_if_written site (Err e) = Err None

@@ -3,12 +3,12 @@ use Rattle.std.specs.Prelude.{ℕ, Bool, true}
 use Rattle.tera_errors.specs.declared.span.Span.{Span}
 use Rattle.tera_components.specs.Definition.{named_arguments}
 use Rattle.tera_meaning.specs.Run.{Request, ABlock, Above, AnInclude, AComponent}
-use Rattle.tera_machine.specs.declared.asked.Asked.{Asked}
-use Rattle.tera_machine.specs.declared.asked.Asked.TheVariants as asked
-use Rattle.tera_machine.specs.declared.asked.AskedComponent.{AskedComponent}
-use Rattle.tera_machine.specs.declared.asked.AskedTemplate.{AskedTemplate}
-use Rattle.tera_machine.specs.declared.asked.Request as requested
-use Rattle.tera_machine.specs.declared.asked.Request.TheVariants as request
+use Rattle.tera_machine.specs.declared.requests.BlockRequest.{BlockRequest}
+use Rattle.tera_machine.specs.declared.requests.BlockRequest.TheVariants as asked
+use Rattle.tera_machine.specs.declared.requests.ComponentRequest.{ComponentRequest}
+use Rattle.tera_machine.specs.declared.requests.IncludeRequest.{IncludeRequest}
+use Rattle.tera_machine.specs.declared.requests.Request as requested
+use Rattle.tera_machine.specs.declared.requests.Request.TheVariants as request
 use Rattle.tera_machine.specs.declared.machine.Flow as declared
 use Rattle.tera_machine.specs.declared.machine.Flow.TheVariants as flow
 
@@ -28,35 +28,35 @@ pub data Flow : Type 0 where
   Ask : (request : Request) (use' : Use) → Flow
 
 -- what is requested of a block, and what is made of its text
-abbrev pub block_request : Asked → Request
+abbrev pub block_request : BlockRequest → Request
 block_request (asked.Block name span) = ABlock name.now span
-block_request (asked.Above span) = Above span
+block_request (asked.Super span) = Above span
 
-abbrev pub block_use : Asked → Use
+abbrev pub block_use : BlockRequest → Use
 block_use (asked.Block name span) = Written
-block_use (asked.Above span) = Pushed true span
+block_use (asked.Super span) = Pushed true span
 
 -- the same for a template that is included, whose text is written
-abbrev pub include_request : AskedTemplate → Request
+abbrev pub include_request : IncludeRequest → Request
 include_request a = AnInclude a.name.now a.span
 
 -- the same for a component
-abbrev pub component_request : AskedComponent → Request
+abbrev pub component_request : ComponentRequest → Request
 component_request a = AComponent a.name.now (named_arguments a.given) a.body a.span
 
-abbrev pub component_use : AskedComponent → Use
+abbrev pub component_use : ComponentRequest → Use
 component_use a = Pushed a.safe a.span
 
 -- what is requested of any body, and what is made of its text
 abbrev pub request_of : requested.Request → Request
 request_of (request.Block name span) = ABlock name.now span
-request_of (request.Above span) = Above span
+request_of (request.Super span) = Above span
 request_of (request.Include name span) = AnInclude name.now span
 request_of (request.Component a) = component_request a.value
 
 abbrev pub use_of : requested.Request → Use
 use_of (request.Block name span) = Written
-use_of (request.Above span) = Pushed true span
+use_of (request.Super span) = Pushed true span
 use_of (request.Include name span) = Written
 use_of (request.Component a) = component_use a.value
 
@@ -66,4 +66,4 @@ flow_of flow.On = On
 flow_of (flow.Skip count) = Skip count
 flow_of (flow.To place count) = To place count
 flow_of flow.Out = Out
-flow_of (flow.Ask r) = Ask (request_of r) (use_of r)
+flow_of (flow.Call r) = Ask (request_of r) (use_of r)

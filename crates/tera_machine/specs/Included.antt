@@ -2,7 +2,7 @@
 use Rattle.std.specs.Prelude.{List, map}
 use Rattle.tera_errors.specs.Site.{Name}
 use Rattle.tera_registry.specs.declared.templates.FoundTemplate.{FoundTemplate}
-use Rattle.tera_machine.specs.declared.blocks.OpenBlock.{OpenBlock}
+use Rattle.tera_machine.specs.declared.open_bodies.OpenBlock.{OpenBlock}
 
 -- the names of templates that are included and open, the innermost first
 abbrev pub names_in : List FoundTemplate → List Name

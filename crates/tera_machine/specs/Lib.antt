@@ -13,7 +13,7 @@ pub mod OpenThings
 pub mod Included
 pub mod Subject
 pub mod Printing
-pub mod Wanted
+pub mod WantedBlock
 pub mod Bodies
 pub mod Includes
 pub mod Apart

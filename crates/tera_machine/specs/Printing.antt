@@ -6,7 +6,7 @@ use Rattle.tera_values.specs.Val.{Val}
 use Rattle.tera_state.specs.Items.{unkeyed}
 use Rattle.tera_state.specs.Scope.{Turn, Heading, open_turn, turn, turns_from}
 use Rattle.tera_code.specs.declared.instruction.Instruction.TheVariants as instruction
-use Rattle.tera_code.specs.Asked.{ended_loop}
+use Rattle.tera_code.specs.InstructionParts.{ended_loop}
 use Rattle.tera_code.specs.Code.{Code}
 use Rattle.tera_code.specs.Printing.{puts_up_to}
 use Rattle.tera_objects.specs.Engine.{Engine}

@@ -20,9 +20,9 @@ use Rattle.tera_registry.specs.Templates.{with_templates, definers_of, AreAmong}
 use Rattle.tera_registry.specs.declared.body.Body.{Body}
 use Rattle.tera_registry.specs.declared.templates.Templates.{Templates}
 use Rattle.tera_registry.specs.declared.templates.FoundTemplate.{FoundTemplate}
-use Rattle.tera_machine.specs.declared.blocks.OpenBlock.{OpenBlock}
-use Rattle.tera_machine.specs.declared.blocks.OpenBlocks.{OpenBlocks}
-use Rattle.tera_machine.specs.declared.components.Beside.{Beside}
+use Rattle.tera_machine.specs.declared.open_bodies.OpenBlock.{OpenBlock}
+use Rattle.tera_machine.specs.declared.open_bodies.OpenBodies.{OpenBodies}
+use Rattle.tera_machine.specs.declared.components.OneOffComponents.{OneOffComponents}
 use Rattle.tera_machine.specs.declared.configuration.Configuration.{Configuration}
 use Rattle.tera_machine.specs.declared.machine.VirtualMachine.{VirtualMachine}
 use Rattle.tera_machine.specs.Included.{names_in, names_opened}
@@ -79,7 +79,7 @@ AreNumbered r template opened =
 -- the body that runs belongs to the templates of the registry, those who define its block above, and
 -- the templates that are included and open; and blocks are open by their numbers for the template
 -- that is rendered
-abbrev pub Belong : {O : Type 0} → World → VirtualMachine O → Body → OpenBlocks → Type 0
+abbrev pub Belong : {O : Type 0} → World → VirtualMachine O → Body → OpenBodies → Type 0
 Belong w m body blocks =
     IsOf w.registry body
     × AreAmong w.registry blocks.above
@@ -87,12 +87,12 @@ Belong w m body blocks =
     × AreNumbered w.registry (template_of m) blocks.opened.inner
 
 -- the components of the text beside the templates, as they are kept
-abbrev pub kept_beside : Option Beside → List (Definition × Listing)
+abbrev pub kept_beside : Option OneOffComponents → List (Definition × Listing)
 kept_beside None = []
 kept_beside (Some b) = map kept_of b.text.now.components.items
 
 -- that text is linked to the templates of the registry
-abbrev pub stands_beside : Option Beside → Registry → Type 0
+abbrev pub stands_beside : Option OneOffComponents → Registry → Type 0
 stands_beside None r = Unit {0}
 stands_beside (Some b) r = AreOf r b.text.now.templates.now
 
@@ -103,7 +103,7 @@ pub record IsLinked {O : Type 0} (m : VirtualMachine O) (w : World) : Type 0 whe
   pub components : kept_beside m.beside ≡ map (kept_as one_off_name) w.beside
 
 -- where a body of this file stands while the machine runs it, with these templates and blocks open
-abbrev pub place_at : {O : Type 0} → VirtualMachine O → Name → OpenBlocks → Configuration → Place
+abbrev pub place_at : {O : Type 0} → VirtualMachine O → Name → OpenBodies → Configuration → Place
 place_at m file blocks c = record {
   template = template_of m;
   file = file;

@@ -12,9 +12,9 @@ ghost use Rattle.tera_state.specs.Scope.{Around, Variables};
 ghost use Rattle.tera_machine.specs.Effect.{IsReady, Does, filter_called, test_called};
 ghost use Rattle.tera_machine.specs.Subject.{here_of};
 
-use crate::calls::no_truth;
+use crate::calls::test_fault;
 use crate::configuration::Configuration;
-use crate::machine::{Flow, Going, VirtualMachine};
+use crate::machine::{Flow, FlowResult, VirtualMachine};
 use tera_built_ins::{BuiltInFilter, BuiltInTest};
 use tera_code::{CallKind, LentName, Names};
 use tera_objects::Objects;
@@ -33,7 +33,7 @@ impl<'c> Configuration<'c> {
         name: &LentName<'_>,
         names: &Names<'_>,
         span: Span,
-    ) -> Going<'f>
+    ) -> FlowResult<'f>
         requires named { filter_named name.now ≡ Some filter }
         requires ready { IsReady (filter_called (here_of O.engine machine.now file.now self.old)
             name.now names.now span) self.old }
@@ -59,7 +59,7 @@ impl<'c> Configuration<'c> {
         filter: BuiltInFilter,
         name: &LentName<'_>,
         span: Span,
-    ) -> Going<'f>
+    ) -> FlowResult<'f>
         requires named { filter_named name.now ≡ Some filter }
         requires lone { at_name name.now (O.engine machine.now.objects.now).filters ≡ None }
         requires ready { IsReady (filter_called (here_of O.engine machine.now file.now self.old)
@@ -68,7 +68,7 @@ impl<'c> Configuration<'c> {
             name.now [] span) self.old result self.new }
     {
         let target = self.operands.top_mut();
-        *target = filtered_alone(machine, file, filter, name, target, span)?;
+        *target = filter_result_without_arguments(machine, file, filter, name, target, span)?;
         Ok(Flow::On)
     }
 
@@ -82,7 +82,7 @@ impl<'c> Configuration<'c> {
         name: &LentName<'_>,
         argument: &Name,
         span: Span,
-    ) -> Going<'f>
+    ) -> FlowResult<'f>
         requires named { filter_named name.now ≡ Some filter }
         requires lone { at_name name.now (O.engine machine.now.objects.now).filters ≡ None }
         requires ready { IsReady (filter_called (here_of O.engine machine.now file.now self.old)
@@ -90,10 +90,10 @@ impl<'c> Configuration<'c> {
         ensures { Does (filter_called (here_of O.engine machine.now file.now self.old)
             name.now (argument.now ∷ []) span) self.old result self.new }
     {
-        let given = (argument.share()?, self.operands.take().into_value());
-        let given = Arguments::one(machine.alloc, &given);
+        let given = (argument.share()?, self.operands.pop_top().into_value());
+        let given = Arguments::of_one(machine.alloc, &given);
         let target = self.operands.top_mut();
-        *target = filtered(machine, file, filter, name, &given, target, span)?;
+        *target = filter_result(machine, file, filter, name, &given, target, span)?;
         Ok(Flow::On)
     }
 
@@ -106,7 +106,7 @@ impl<'c> Configuration<'c> {
         name: &LentName<'_>,
         names: &[Name],
         span: Span,
-    ) -> Going<'f>
+    ) -> FlowResult<'f>
         requires named { filter_named name.now ≡ Some filter }
         requires lone { at_name name.now (O.engine machine.now.objects.now).filters ≡ None }
         requires ready { IsReady (filter_called (here_of O.engine machine.now file.now self.old)
@@ -114,11 +114,11 @@ impl<'c> Configuration<'c> {
         ensures { Does (filter_called (here_of O.engine machine.now file.now self.old)
             name.now names.now span) self.old result self.new }
     {
-        let operands = self.take_topmost(names.len())?;
+        let operands = self.pop_operands(names.len())?;
         let given = arguments(machine.alloc, names, operands)?;
-        let target = self.operands.take();
-        let operand = filtered(machine, file, filter, name, &given.lent(), &target, span)?;
-        self.put(operand)
+        let target = self.operands.pop_top();
+        let operand = filter_result(machine, file, filter, name, &given.as_arguments(), &target, span)?;
+        self.push_operand(operand)
     }
 
     /// Applies the test of this name, as above.
@@ -131,7 +131,7 @@ impl<'c> Configuration<'c> {
         name: &LentName<'_>,
         names: &Names<'_>,
         span: Span,
-    ) -> Going<'f>
+    ) -> FlowResult<'f>
         requires named { test_named name.now ≡ Some test }
         requires ready { IsReady (test_called (here_of O.engine machine.now file.now self.old)
             name.now names.now span) self.old }
@@ -157,7 +157,7 @@ impl<'c> Configuration<'c> {
         test: BuiltInTest,
         name: &LentName<'_>,
         span: Span,
-    ) -> Going<'f>
+    ) -> FlowResult<'f>
         requires named { test_named name.now ≡ Some test }
         requires lone { at_name name.now (O.engine machine.now.objects.now).tests ≡ None }
         requires ready { IsReady (test_called (here_of O.engine machine.now file.now self.old)
@@ -166,7 +166,7 @@ impl<'c> Configuration<'c> {
             name.now [] span) self.old result self.new }
     {
         let target = self.operands.top_mut();
-        *target = tested_alone(machine, file, test, name, target, span)?;
+        *target = test_result_without_arguments(machine, file, test, name, target, span)?;
         Ok(Flow::On)
     }
 
@@ -180,7 +180,7 @@ impl<'c> Configuration<'c> {
         name: &LentName<'_>,
         argument: &Name,
         span: Span,
-    ) -> Going<'f>
+    ) -> FlowResult<'f>
         requires named { test_named name.now ≡ Some test }
         requires lone { at_name name.now (O.engine machine.now.objects.now).tests ≡ None }
         requires ready { IsReady (test_called (here_of O.engine machine.now file.now self.old)
@@ -188,17 +188,17 @@ impl<'c> Configuration<'c> {
         ensures { Does (test_called (here_of O.engine machine.now file.now self.old)
             name.now (argument.now ∷ []) span) self.old result self.new }
     {
-        let given = (argument.share()?, self.operands.take().into_value());
-        let given = Arguments::one(machine.alloc, &given);
+        let given = (argument.share()?, self.operands.pop_top().into_value());
+        let given = Arguments::of_one(machine.alloc, &given);
         let target = self.operands.top_mut();
-        *target = tested(machine, file, test, name, &given, target, span)?;
+        *target = test_result(machine, file, test, name, &given, target, span)?;
         Ok(Flow::On)
     }
 }
 
 // What a filter that is built in makes of the target, as an operand.
 #[inline(always)]
-fn filtered<O: Objects>(
+fn filter_result<O: Objects>(
     machine: &VirtualMachine<'_, O>,
     file: &str,
     filter: BuiltInFilter,
@@ -230,7 +230,7 @@ fn filtered<O: Objects>(
 
 // The same without arguments.
 #[inline(always)]
-fn filtered_alone<O: Objects>(
+fn filter_result_without_arguments<O: Objects>(
     machine: &VirtualMachine<'_, O>,
     file: &str,
     filter: BuiltInFilter,
@@ -246,13 +246,13 @@ fn filtered_alone<O: Objects>(
         (O.engine machine.now.objects.now) around vars machine.now.autoescape) name.now)
         target.now [] span) }
 {
-    let none = Arguments::none(machine.alloc);
-    filtered(machine, file, filter, name, &none, target, span)
+    let none = Arguments::of_none(machine.alloc);
+    filter_result(machine, file, filter, name, &none, target, span)
 }
 
 // Whether the target passes a test that is built in, as an operand.
 #[inline(always)]
-fn tested<O: Objects>(
+fn test_result<O: Objects>(
     machine: &VirtualMachine<'_, O>,
     file: &str,
     test: BuiltInTest,
@@ -273,7 +273,7 @@ fn tested<O: Objects>(
     match test.call(alloc, target.value(), given) {
         Ok(flag) => Ok(Operand::new(Value::from_bool(flag), span)),
         Err(error) => {
-            let answer = no_truth(error.of_callee(alloc, "test", name.as_name().as_str()));
+            let answer = test_fault(error.of_callee(alloc, "test", name.as_name().as_str()));
             operand_or_call_fault(alloc, file, answer, target.span(), span)
         }
     }
@@ -281,7 +281,7 @@ fn tested<O: Objects>(
 
 // The same without arguments.
 #[inline(always)]
-fn tested_alone<O: Objects>(
+fn test_result_without_arguments<O: Objects>(
     machine: &VirtualMachine<'_, O>,
     file: &str,
     test: BuiltInTest,
@@ -297,6 +297,6 @@ fn tested_alone<O: Objects>(
         (O.engine machine.now.objects.now) around vars machine.now.autoescape) name.now)
         target.now [] span) }
 {
-    let none = Arguments::none(machine.alloc);
-    tested(machine, file, test, name, &none, target, span)
+    let none = Arguments::of_none(machine.alloc);
+    test_result(machine, file, test, name, &none, target, span)
 }

@@ -12,10 +12,10 @@ ghost use Rattle.tera_machine.specs.Effect.{IsReady, Does, called};
 ghost use Rattle.tera_machine.specs.Subject.{here_of};
 
 use crate::configuration::Configuration;
-use crate::machine::{Going, VirtualMachine};
+use crate::machine::{FlowResult, VirtualMachine};
 use std::alloc::Global;
 use tera_code::{CallKind, LentName, Names};
-use tera_objects::{Call, Objects};
+use tera_objects::{ObjectCall, Objects};
 use tera_operators::{Operand, arguments, operand_or_call_fault, operand_or_fault};
 use tera_values::{Error, Span, TeraResult, Value};
 
@@ -31,7 +31,7 @@ impl<'c> Configuration<'c> {
         name: &LentName<'_>,
         names: &Names<'_>,
         span: Span,
-    ) -> Going<'f>
+    ) -> FlowResult<'f>
         requires { IsReady (called kind (here_of O.engine machine.now file.now self.old)
             name.now names.now span) self.old }
         ensures { Does (called kind (here_of O.engine machine.now file.now self.old)
@@ -39,8 +39,8 @@ impl<'c> Configuration<'c> {
     {
         let (alloc, objects) = (machine.alloc, machine.objects);
         let names = names.as_slice();
-        let operands = self.take_topmost(names.len())?;
-        let call = Call {
+        let operands = self.pop_operands(names.len())?;
+        let call = ObjectCall {
             alloc,
             scopes: &self.scopes,
             autoescape: machine.autoescape,
@@ -51,20 +51,20 @@ impl<'c> Configuration<'c> {
             CallKind::Function => {
                 let name = call.name;
                 let answer = match objects.call_function(call) {
-                    Ok(value) => return self.push(value, span),
-                    Err(error) => Err(of_function(alloc, name, error)),
+                    Ok(value) => return self.push_value(value, span),
+                    Err(error) => Err(function_fault(alloc, name, error)),
                 };
-                self.put(operand_or_fault(alloc, file, answer, span, span)?)
+                self.push_operand(operand_or_fault(alloc, file, answer, span, span)?)
             }
             CallKind::Filter => {
-                let target = self.operands.take();
+                let target = self.operands.pop_top();
                 let operand = filter(machine, file, call, &target, span)?;
-                self.put(operand)
+                self.push_operand(operand)
             }
             CallKind::Test => {
-                let target = self.operands.take();
+                let target = self.operands.pop_top();
                 let operand = test(machine, file, call, &target, span)?;
-                self.put(operand)
+                self.push_operand(operand)
             }
         }
     }
@@ -74,7 +74,7 @@ impl<'c> Configuration<'c> {
 fn filter<O: Objects>(
     machine: &VirtualMachine<'_, O>,
     file: &str,
-    call: Call<'_>,
+    call: ObjectCall<'_>,
     target: &Operand,
     span: Span,
 ) -> TeraResult<Operand>
@@ -99,7 +99,7 @@ fn filter<O: Objects>(
 fn test<O: Objects>(
     machine: &VirtualMachine<'_, O>,
     file: &str,
-    call: Call<'_>,
+    call: ObjectCall<'_>,
     target: &Operand,
     span: Span,
 ) -> TeraResult<Operand>
@@ -113,14 +113,14 @@ fn test<O: Objects>(
     match machine.objects.call_test(call, target.value()) {
         Ok(flag) => Ok(Operand::new(Value::from_bool(flag), span)),
         Err(error) => {
-            let answer = no_truth(error.of_callee(alloc, "test", name));
+            let answer = test_fault(error.of_callee(alloc, "test", name));
             operand_or_call_fault(machine.alloc, file, answer, target.span(), span)
         }
     }
 }
 
 // The fault of a test, in the place of the value that it would have made.
-pub(crate) fn no_truth(error: Error) -> TeraResult<Value>
+pub(crate) fn test_fault(error: Error) -> TeraResult<Value>
     ensures { (meant : Result Bool Fault) → Gives (λ b. b) (Err error) meant →
         Gives (λ v. v) result (then meant (λ b. Ok (bool b))) }
 {
@@ -129,7 +129,7 @@ pub(crate) fn no_truth(error: Error) -> TeraResult<Value>
 
 // The fault of a function that names it. What `throw` refuses it refuses in the author's own words.
 #[inline(never)]
-fn of_function(alloc: Global, name: &str, error: Error) -> Error
+fn function_fault(alloc: Global, name: &str, error: Error) -> Error
     ensures { result ≡ error }
 {
     if name == "throw" {

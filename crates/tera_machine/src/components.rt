@@ -5,7 +5,7 @@ ghost use Rattle.tera_state.specs.Prelude.{in_component, around_of, variables_of
 ghost use Rattle.tera_meaning.specs.Prelude.{component_at};
 ghost use Rattle.tera_code.specs.Targets.{ComponentNamed};
 ghost use Rattle.tera_registry.specs.Prelude.{code_of, found_of, first_kept, IsDefined};
-ghost use Rattle.tera_machine.specs.declared.blocks.OpenBlocks.{OpenBlocks};
+ghost use Rattle.tera_machine.specs.declared.open_bodies.OpenBodies.{OpenBlocks};
 ghost use Rattle.tera_machine.specs.Config.{config_of};
 ghost use Rattle.tera_machine.specs.Flow.{Pushed, component_request};
 ghost use Rattle.tera_machine.specs.Apart.{Begins, Rejoins};
@@ -13,8 +13,8 @@ ghost use Rattle.tera_machine.specs.Components.{Calls};
 ghost use Rattle.tera_machine.specs.Open.{TakesBefore};
 ghost use Rattle.tera_machine.specs.Subject.{IsLinked, IsOf, kept_beside, place_at};
 
-use crate::asked::AskedComponent;
-use crate::bodies::Outer;
+use crate::requests::ComponentRequest;
+use crate::block_bodies::SavedBody;
 use crate::configuration::Configuration;
 use crate::machine::{Limit, VirtualMachine};
 use crate::refusals::{no_component, too_deep};
@@ -28,13 +28,13 @@ pub(crate) const MAX_DEPTH: usize = 20;
 
 /// The components that a text beside the templates defines.
 #[derive(Clone, Copy)]
-pub struct Beside<'t> {
+pub struct OneOffComponents<'t> {
     pub text: &'t TextTable<'t>,
 }
 
 /// A component that is called: its body, the context in which that runs, and how many components are open then.
 #[derive(Drop)]
-pub struct Called<'t> {
+pub struct ComponentBody<'t> {
     pub body: Body<'t>,
     pub context: Kwargs,
     pub depth: usize,
@@ -42,7 +42,7 @@ pub struct Called<'t> {
 
 impl<'c> Configuration<'c> {
     /// The body of a component begins, in a state that reads nothing but the context.
-    pub(crate) fn begin_component(&mut self, context: Kwargs) -> TeraResult<Outer>
+    pub(crate) fn begin_component(&mut self, context: Kwargs) -> TeraResult<SavedBody>
         ensures begins { IfOk result (λ outer. Begins
             (in_component context (around_of self.old.scopes) (variables_of self.old.scopes))
             self.old outer self.new) }
@@ -53,13 +53,13 @@ impl<'c> Configuration<'c> {
     }
 
     /// The body of a component ends: its text becomes an operand, and all else is as before it.
-    pub(crate) fn end_component(&mut self, safe: bool, span: Span, outer: Outer) -> TeraResult<()>
+    pub(crate) fn end_component(&mut self, safe: bool, span: Span, outer: SavedBody) -> TeraResult<()>
         requires text { (config_of self.old).captures ≢ [] }
         requires state { self.old.scopes.below ≢ [] }
         ensures rejoins { OnOk result (Rejoins (Pushed safe span) self.old outer self.new) }
         ensures lacks { IfErr result Lacks }
     {
-        let Outer { places, ended } = outer;
+        let SavedBody { places, ended } = outer;
         self.places = places;
         self.ended = ended;
         self.scopes.leave();
@@ -72,7 +72,7 @@ impl<'c> Configuration<'c> {
 
 impl<'t, O: Objects> VirtualMachine<'t, O> {
     // The one of this name among those of the text beside the templates.
-    fn beside<M: Limit>(&self, name: &Name) -> Option<Defined<'t>>
+    fn one_off_component<M: Limit>(&self, name: &Name) -> Option<Defined<'t>>
         requires { IsLinked self.now M.world }
         ensures first { option_map found_of result
             ≡ first_kept name.now (kept_beside self.now.beside) }
@@ -89,7 +89,7 @@ impl<'t, O: Objects> VirtualMachine<'t, O> {
 
     // The component of this name, which the instruction before this position of the code calls: that of the templates, else that
     // of the text beside them.
-    fn named<M: Limit>(&self, here: Body<'t>, next: usize, name: &Name) -> Option<Defined<'t>>
+    fn component_by_name<M: Limit>(&self, here: Body<'t>, next: usize, name: &Name) -> Option<Defined<'t>>
         requires linked { IsLinked self.now M.world }
         requires here { IsOf M.world.registry here }
         requires takes { TakesBefore here next (ComponentNamed name.now) }
@@ -98,19 +98,19 @@ impl<'t, O: Objects> VirtualMachine<'t, O> {
     {
         match here.component_at(next - 1) {
             Some(component) => Some(component),
-            None => self.beside::<M>(name),
+            None => self.one_off_component::<M>(name),
         }
     }
 
     /// The component that is asked for, or the fault of the request.
     #[tactic(auto, using(crate::proofs::Calling::nobody_called, crate::proofs::Calling::unfit, crate::proofs::Calling::too_deep, crate::proofs::Calling::is_called))]
-    pub(crate) fn called<M: Limit>(
+    pub(crate) fn resolve_component<M: Limit>(
         &self,
         here: Body<'t>,
         next: usize,
-        asked: AskedComponent<'_>,
+        asked: ComponentRequest<'_>,
         configuration: &Configuration<'_>,
-    ) -> TeraResult<Called<'t>>
+    ) -> TeraResult<ComponentBody<'t>>
         requires linked { IsLinked self.now M.world }
         requires here { IsOf M.world.registry here }
         requires takes { TakesBefore here next (ComponentNamed asked.name.now) }
@@ -118,14 +118,14 @@ impl<'t, O: Objects> VirtualMachine<'t, O> {
             (place_at self.now (code_of here.entry).file blocks configuration.now)
             (component_request asked.entry) (variables_of configuration.now.scopes) result }
     {
-        let AskedComponent {
+        let ComponentRequest {
             name,
             given,
             body,
             safe: _,
             span,
         } = asked;
-        let Some(component) = self.named::<M>(here, next, name) else {
+        let Some(component) = self.component_by_name::<M>(here, next, name) else {
             return Err(no_component(self.alloc, name, here.chunk().file(), span));
         };
         let scopes = &configuration.scopes;
@@ -136,7 +136,7 @@ impl<'t, O: Objects> VirtualMachine<'t, O> {
         if self.depth >= MAX_DEPTH {
             return Err(too_deep(self.alloc, name));
         }
-        Ok(Called {
+        Ok(ComponentBody {
             body: component.body,
             context,
             depth: self.depth + 1,

@@ -1,7 +1,7 @@
 // What the machine works on.
-use crate::ended::Ended;
-use crate::place::LoopPlace;
-use crate::texts::Texts;
+use crate::ended_blocks::EndedBlocks;
+use crate::loop_place::LoopPlace;
+use crate::rendered_text::RenderedText;
 use std::alloc::Global;
 use tera_operators::Operand;
 use tera_state::{Scopes, Stack};
@@ -12,9 +12,9 @@ pub struct Configuration<'c> {
     pub alloc: Global,
     pub operands: Stack<Operand>,
     pub scopes: Scopes<'c>,
-    pub texts: Texts,
+    pub texts: RenderedText,
     pub places: Stack<LoopPlace>,
-    pub ended: Ended,
+    pub ended: EndedBlocks,
 }
 
 impl<'c> Configuration<'c> {
@@ -32,9 +32,9 @@ impl<'c> Configuration<'c> {
             alloc,
             operands: Stack::new(alloc),
             scopes,
-            texts: Texts::new(alloc),
+            texts: RenderedText::new(alloc),
             places: Stack::new(alloc),
-            ended: Ended::new(),
+            ended: EndedBlocks::new(),
         }
     }
 }

@@ -11,9 +11,9 @@ ghost use Rattle.tera_machine.specs.Open.{TakesBefore};
 ghost use Rattle.tera_machine.specs.Subject.{AreFrom, IsOf, place_at};
 ghost use Rattle.tera_registry.specs.Prelude.{code_of};
 
-use crate::asked::AskedTemplate;
-use crate::blocks::OpenBlocks;
-use crate::bodies::Outer;
+use crate::requests::IncludeRequest;
+use crate::open_bodies::OpenBodies;
+use crate::block_bodies::SavedBody;
 use crate::configuration::Configuration;
 use crate::machine::{Limit, VirtualMachine};
 use crate::open_things::Numbered;
@@ -32,7 +32,7 @@ impl<'t> Numbered for FoundTemplate<'t> {
 
 impl<'c> Configuration<'c> {
     /// The body of an include begins, in a state that reads this one.
-    pub(crate) fn begin_include(&mut self) -> TeraResult<Outer>
+    pub(crate) fn begin_include(&mut self) -> TeraResult<SavedBody>
         ensures begins { IfOk result (λ outer. Begins
             (in_include (around_of self.old.scopes) (variables_of self.old.scopes))
             self.old outer self.new) }
@@ -43,13 +43,13 @@ impl<'c> Configuration<'c> {
     }
 
     /// The body of an include ends: its text joins the one around it, and all else is as before it.
-    pub(crate) fn end_include(&mut self, outer: Outer) -> TeraResult<()>
+    pub(crate) fn end_include(&mut self, outer: SavedBody) -> TeraResult<()>
         requires text { (config_of self.old).captures ≢ [] }
         requires state { self.old.scopes.below ≢ [] }
         ensures rejoins { OnOk result (Rejoins Written self.old outer self.new) }
         ensures lacks { IfErr result Lacks }
     {
-        let Outer { places, ended } = outer;
+        let SavedBody { places, ended } = outer;
         self.places = places;
         self.ended = ended;
         self.scopes.leave();
@@ -60,12 +60,12 @@ impl<'c> Configuration<'c> {
 
 impl<'t, O: Objects> VirtualMachine<'t, O> {
     /// The template to include, which the instruction before this position of the code takes, or the fault of the request.
-    pub(crate) fn included<M: Limit>(
+    pub(crate) fn resolve_include<M: Limit>(
         &self,
         here: Body<'t>,
         next: usize,
-        asked: AskedTemplate<'_>,
-        blocks: &OpenBlocks<'t>,
+        asked: IncludeRequest<'_>,
+        blocks: &OpenBodies<'t>,
     ) -> TeraResult<FoundTemplate<'t>>
         requires linked { IsOf M.world.registry here }
         requires takes { TakesBefore here next (TemplateNamed asked.name.now) }
@@ -74,7 +74,7 @@ impl<'t, O: Objects> VirtualMachine<'t, O> {
             (place_at self.now (code_of here.entry).file blocks.now c) (include_request asked.entry)
             (config_of c).run.vars result }
     {
-        let AskedTemplate { name, span } = asked;
+        let IncludeRequest { name, span } = asked;
         let Some(found) = here.template_at(next - 1) else {
             return Err(no_template(self.alloc, name, here.chunk().file(), span));
         };

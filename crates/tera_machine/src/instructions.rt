@@ -4,26 +4,26 @@ ghost use Rattle.tera_errors.specs.Prelude.{Tells, Lacks, Site, rendering_error}
 ghost use Rattle.tera_operators.specs.Operators.{binary_of};
 ghost use Rattle.tera_machine.specs.Config.{config_of};
 ghost use Rattle.tera_machine.specs.Did.{pushed, holding};
-ghost use Rattle.tera_machine.specs.Effect.{effect, IsReady, IsSmall, Does, going_on, going_on_if, text_written, outcome_put, top_written, name_written, name_loaded, context_loaded, stored, attribute_loaded, item_loaded, sliced, denied, negated, operated, handed, component_taken, popped_branch, kept_if, above_taken, topmost, on_one};
+ghost use Rattle.tera_machine.specs.Effect.{effect, IsReady, IsSmall, Does, continue_after, continue_if_written, text_written, outcome_put, top_written, name_written, name_loaded, context_loaded, stored, attribute_loaded, item_loaded, sliced, denied, negated, operated, handed, component_taken, popped_branch, kept_if, above_taken, topmost, on_one};
 ghost use Rattle.tera_machine.specs.Subject.{here_of};
 ghost use Rattle.tera_machine.specs.declared.machine.Flow.TheVariants as flow;
 ghost use Rattle.tera_state.specs.Prelude.{around_of};
 
-use crate::asked::{AskedComponent, Request};
+use crate::requests::{ComponentRequest, Request};
 use crate::configuration::Configuration;
-use crate::machine::{Flow, Going, VirtualMachine};
-use crate::step::push_again;
+use crate::machine::{Flow, FlowResult, VirtualMachine};
+use crate::dispatch::push_again;
 use std::alloc::{AllocError, Global};
 use tera_code::{CallKind, Constant, Instruction, Keys};
-use tera_errors::lacking;
+use tera_errors::alloc_result;
 use tera_objects::Objects;
 use tera_operators::Operand;
-use tera_state::Found;
+use tera_state::FoundValue;
 use tera_syntax_tree::BinaryOperator;
-use tera_values::{Error, Name, Sought, Span, TeraResult, Value};
+use tera_values::{Error, Name, NameRef, Span, TeraResult, Value};
 
 /// Whether a value was put out, unless memory was refused.
-pub(crate) type Put = Result<bool, AllocError>;
+pub(crate) type WriteResult = Result<bool, AllocError>;
 
 impl<'c> Configuration<'c> {
     /// Does what the instruction says, which stands in this file's text in front of the next position, and tells where to go on.
@@ -34,7 +34,7 @@ impl<'c> Configuration<'c> {
         file: &str,
         next: usize,
         instruction: &Instruction<'f>,
-    ) -> Going<'f>
+    ) -> FlowResult<'f>
         requires ready { IsReady (effect (here_of O.engine machine.now file.now self.old)
             next instruction.now) self.old }
         requires small { IsSmall (effect (here_of O.engine machine.now file.now self.old)
@@ -44,11 +44,11 @@ impl<'c> Configuration<'c> {
     {
         let alloc = machine.alloc;
         match instruction {
-            Instruction::WriteText(text) => going_on(self.write_text(text.as_str())),
+            Instruction::WriteText(text) => continue_after(self.write_text(text.as_str())),
             Instruction::WriteTop => self.write_top(machine, file),
             Instruction::WriteName(name, span) => self.write_name(machine, file, name, *span),
             Instruction::LoadConst(constant, span) => self.load_constant(constant, *span),
-            Instruction::LoadName(name, span) => going_on(self.load_name(alloc, name, *span)),
+            Instruction::LoadName(name, span) => continue_after(self.load_name(alloc, name, *span)),
             Instruction::LoadAttribute {
                 name,
                 optional,
@@ -58,20 +58,20 @@ impl<'c> Configuration<'c> {
                 self.load_item(alloc, file, *optional, *span)
             }
             Instruction::Slice { optional, span } => self.slice(alloc, file, *optional, *span),
-            Instruction::Not => self.deny(),
+            Instruction::Not => self.negate_truth(),
             Instruction::Negate => self.negate(alloc, file),
             Instruction::Binary(operator, span) => self.operate(alloc, file, *operator, *span),
             Instruction::MakeArray(spreads, span) => {
                 let spreads = spreads.as_slice();
-                let operands = self.take_topmost(spreads.len())?;
+                let operands = self.pop_operands(spreads.len())?;
                 let operand = tera_operators::array(alloc, file, spreads, operands, *span)?;
-                self.put(operand)
+                self.push_operand(operand)
             }
             Instruction::MakeMap(keys, span) => {
                 let keys = keys.as_slice();
-                let operands = self.take_topmost(keys.len())?;
+                let operands = self.pop_operands(keys.len())?;
                 let operand = tera_operators::map(alloc, file, keys, operands, *span)?;
-                self.put(operand)
+                self.push_operand(operand)
             }
             Instruction::Jump(skip) => Ok(Flow::Skip(*skip)),
             Instruction::PopJumpIfFalse(skip) => self.pop_jump_if_false(*skip),
@@ -79,7 +79,7 @@ impl<'c> Configuration<'c> {
             Instruction::JumpIfTrueOrPop(skip) => self.jump_or_pop(true, *skip),
             Instruction::LoadContext(span) => self.load_context(alloc, *span),
             Instruction::Store { name, is_global } => {
-                going_on(self.store(alloc, name.as_name(), *is_global))
+                continue_after(self.store(alloc, name.as_name(), *is_global))
             }
             Instruction::StartLoop {
                 key,
@@ -89,25 +89,25 @@ impl<'c> Configuration<'c> {
             } => self.start_loop(machine, file, next, key, name, *counts, *size),
             Instruction::NextTurn => self.next_turn(),
             Instruction::EndLoop(skip) => self.end_loop(*skip),
-            Instruction::Keep => self.keep(),
+            Instruction::Keep => self.collect(),
             Instruction::EndComprehension(span) => self.end_comprehension(alloc, *span),
             Instruction::StartCapture => self.start_capture(),
             Instruction::EndCapture(span) => self.end_capture(machine, *span),
             Instruction::LeaveLoop(drops) => self.leave_loop(*drops),
             Instruction::LeaveTurn(drops) => self.leave_turn(*drops),
             Instruction::TakeBlock { name, span } => {
-                Ok(Flow::Ask(Request::Block(name.as_name(), *span)))
+                Ok(Flow::Call(Request::Block(name.as_name(), *span)))
             }
-            Instruction::TakeAbove { arguments, span } => self.take_above(*arguments, *span),
+            Instruction::TakeSuper { arguments, span } => self.request_super(*arguments, *span),
             Instruction::TakeInclude { name, span } => {
-                Ok(Flow::Ask(Request::Include(name.as_name(), *span)))
+                Ok(Flow::Call(Request::Include(name.as_name(), *span)))
             }
             Instruction::TakeComponent {
                 name,
                 keys,
                 has_body,
                 span,
-            } => self.take_component(machine, file, name.as_name(), keys, *has_body, *span),
+            } => self.request_component(machine, file, name.as_name(), keys, *has_body, *span),
             Instruction::ApplyFilter {
                 name,
                 arguments,
@@ -128,7 +128,7 @@ impl<'c> Configuration<'c> {
 
     #[inline(always)]
     pub(crate) fn write_text(&mut self, text: &str) -> Result<(), AllocError>
-        ensures { Does (text_written text.now) self.old (going_on result) self.new }
+        ensures { Does (text_written text.now) self.old (continue_after result) self.new }
     {
         self.texts.append(text)
     }
@@ -138,14 +138,14 @@ impl<'c> Configuration<'c> {
         &mut self,
         machine: &VirtualMachine<'_, O>,
         file: &str,
-    ) -> Going<'f>
+    ) -> FlowResult<'f>
         requires { IsReady (top_written (here_of O.engine machine.now file.now self.old)) self.old }
         ensures { Does (top_written (here_of O.engine machine.now file.now self.old))
             self.old result self.new }
     {
-        let operand = self.operands.take();
+        let operand = self.operands.pop_top();
         if operand.value().is_undefined() {
-            return Err(undefined_written(machine.alloc, file, operand.span()));
+            return Err(undefined_fault(machine.alloc, file, operand.span()));
         }
         self.texts.append_value(
             machine.alloc,
@@ -161,27 +161,27 @@ impl<'c> Configuration<'c> {
         &mut self,
         machine: &VirtualMachine<'_, O>,
         file: &str,
-        name: &Sought<'_>,
+        name: &NameRef<'_>,
         span: Span,
-    ) -> Going<'f>
+    ) -> FlowResult<'f>
         ensures { Does (name_written (here_of O.engine machine.now file.now self.old) name.now span)
             self.old result self.new }
     {
-        let is_put = self.put_name(machine, name)?;
-        going_on_if(machine.alloc, file, span, is_put)
+        let is_put = self.append_name(machine, name)?;
+        continue_if_written(machine.alloc, file, span, is_put)
     }
 
     // Whether the value was put out, which is read where it lies: what is undefined is not. No flow and no fault are handed
     // out, so that the answer is small.
     #[inline(always)]
-    pub(crate) fn put_name<O: Objects>(
+    pub(crate) fn append_name<O: Objects>(
         &mut self,
         machine: &VirtualMachine<'_, O>,
-        name: &Sought<'_>,
-    ) -> Put
+        name: &NameRef<'_>,
+    ) -> WriteResult
         ensures { (site : Site) → Does
             (name_written (here_of O.engine machine.now site.file self.old) name.now site.span)
-            self.old (going_on_if site result) self.new }
+            self.old (continue_if_written site result) self.new }
     {
         let found = self.scopes.look(name);
         if found.is_undefined() {
@@ -189,7 +189,7 @@ impl<'c> Configuration<'c> {
         }
         let (alloc, autoescape) = (machine.alloc, machine.autoescape);
         match found {
-            Found::Kept(value) => {
+            FoundValue::Kept(value) => {
                 self.texts
                     .append_value(alloc, machine.objects, autoescape, value)?
             }
@@ -197,14 +197,14 @@ impl<'c> Configuration<'c> {
                 let put = self
                     .texts
                     .append_found(alloc, machine.objects, autoescape, found);
-                lacking(put)?
+                alloc_result(put)?
             }
         }
         Ok(true)
     }
 
     #[inline(always)]
-    pub(crate) fn put<'f>(&mut self, operand: Operand) -> Going<'f>
+    pub(crate) fn push_operand<'f>(&mut self, operand: Operand) -> FlowResult<'f>
         ensures { Does (outcome_put (Ok operand)) self.old result self.new }
     {
         match self.operands.push(operand) {
@@ -214,25 +214,25 @@ impl<'c> Configuration<'c> {
     }
 
     #[inline(always)]
-    pub(crate) fn push<'f>(&mut self, value: Value, span: Span) -> Going<'f>
+    pub(crate) fn push_value<'f>(&mut self, value: Value, span: Span) -> FlowResult<'f>
         ensures { Does (pushed value span) self.old result self.new }
     {
-        self.put(Operand::new(value, span))
+        self.push_operand(Operand::new(value, span))
     }
 
     #[inline(always)]
     pub(crate) fn load_name(
         &mut self,
         alloc: Global,
-        name: &Sought<'_>,
+        name: &NameRef<'_>,
         span: Span,
     ) -> Result<(), AllocError>
         ensures { Does (name_loaded (around_of self.old.scopes) name.now span)
-            self.old (going_on result) self.new }
+            self.old (continue_after result) self.new }
     {
         let found = self.scopes.look(name);
         match &found {
-            Found::Kept(value) => push_again(&mut self.operands, value, span),
+            FoundValue::Kept(value) => push_again(&mut self.operands, value, span),
             _ => match found.to_value(alloc) {
                 Ok(value) => self.operands.push(Operand::new(value, span)),
                 Err(_) => Err(AllocError),
@@ -240,11 +240,11 @@ impl<'c> Configuration<'c> {
         }
     }
 
-    fn load_context<'f>(&mut self, alloc: Global, span: Span) -> Going<'f>
+    fn load_context<'f>(&mut self, alloc: Global, span: Span) -> FlowResult<'f>
         ensures { Does (context_loaded (around_of self.old.scopes) span) self.old result self.new }
     {
         let value = self.scopes.dump(alloc)?;
-        self.push(value, span)
+        self.push_value(value, span)
     }
 
     // What is bound is kept in shared form, so that a copy of it is a count.
@@ -256,10 +256,10 @@ impl<'c> Configuration<'c> {
         is_global: bool,
     ) -> Result<(), AllocError>
         requires { IsReady (stored is_global name.now) self.old }
-        ensures { Does (stored is_global name.now) self.old (going_on result) self.new }
+        ensures { Does (stored is_global name.now) self.old (continue_after result) self.new }
     {
-        let operand = self.operands.take();
-        match (operand.into_value().shared(alloc), name.share()) {
+        let operand = self.operands.pop_top();
+        match (operand.into_value().into_shared(alloc), name.share()) {
             (Ok(value), Ok(name)) if is_global => self.scopes.set_global(name, value),
             (Ok(value), Ok(name)) => self.scopes.set(name, value),
             _ => Err(AllocError),
@@ -274,64 +274,64 @@ impl<'c> Configuration<'c> {
         name: &str,
         optional: bool,
         span: Span,
-    ) -> Going<'f>
+    ) -> FlowResult<'f>
         requires { IsReady (attribute_loaded file.now name.now optional span) self.old }
         ensures { Does (attribute_loaded file.now name.now optional span) self.old result self.new }
     {
-        let target = self.operands.take();
+        let target = self.operands.pop_top();
         let operand = tera_operators::attribute(alloc, file, &target, name, optional, span)?;
-        self.put(operand)
+        self.push_operand(operand)
     }
 
     #[inline(never)]
-    fn load_item<'f>(&mut self, alloc: Global, file: &str, optional: bool, span: Span) -> Going<'f>
+    fn load_item<'f>(&mut self, alloc: Global, file: &str, optional: bool, span: Span) -> FlowResult<'f>
         requires { IsReady (item_loaded file.now optional span) self.old }
         ensures { Does (item_loaded file.now optional span) self.old result self.new }
     {
-        let index = self.operands.take();
-        let target = self.operands.take();
+        let index = self.operands.pop_top();
+        let target = self.operands.pop_top();
         let operand = tera_operators::item(alloc, file, &target, &index, optional, span)?;
-        self.put(operand)
+        self.push_operand(operand)
     }
 
-    fn slice<'f>(&mut self, alloc: Global, file: &str, optional: bool, span: Span) -> Going<'f>
+    fn slice<'f>(&mut self, alloc: Global, file: &str, optional: bool, span: Span) -> FlowResult<'f>
         requires { IsReady (sliced file.now optional span) self.old }
         ensures { Does (sliced file.now optional span) self.old result self.new }
     {
-        let step = self.operands.take();
-        let end = self.operands.take();
-        let start = self.operands.take();
-        let target = self.operands.take();
+        let step = self.operands.pop_top();
+        let end = self.operands.pop_top();
+        let start = self.operands.pop_top();
+        let target = self.operands.pop_top();
         let operand = tera_operators::slice(
             alloc, file, &target, &start, &end, &step, optional, span,
         )?;
-        self.put(operand)
+        self.push_operand(operand)
     }
 
     #[inline(never)]
-    pub(crate) fn load_constant<'f>(&mut self, constant: &Constant<'_>, span: Span) -> Going<'f>
+    pub(crate) fn load_constant<'f>(&mut self, constant: &Constant<'_>, span: Span) -> FlowResult<'f>
         ensures { Does (pushed constant.now span) self.old result self.new }
     {
-        self.push(constant.load()?, span)
+        self.push_value(constant.load()?, span)
     }
 
     // The truth value that the topmost operand has not.
     #[inline(never)]
-    pub(crate) fn deny<'f>(&mut self) -> Going<'f>
+    pub(crate) fn negate_truth<'f>(&mut self) -> FlowResult<'f>
         requires { IsReady denied self.old }
         ensures { Does denied self.old result self.new }
     {
-        let operand = self.operands.take();
-        self.put(tera_operators::not(&operand))
+        let operand = self.operands.pop_top();
+        self.push_operand(tera_operators::not(&operand))
     }
 
-    fn negate<'f>(&mut self, alloc: Global, file: &str) -> Going<'f>
+    fn negate<'f>(&mut self, alloc: Global, file: &str) -> FlowResult<'f>
         requires { IsReady (negated file.now) self.old }
         ensures { Does (negated file.now) self.old result self.new }
     {
-        let operand = self.operands.take();
-        let operand = tera_operators::negative(alloc, file, &operand)?;
-        self.put(operand)
+        let operand = self.operands.pop_top();
+        let operand = tera_operators::negate(alloc, file, &operand)?;
+        self.push_operand(operand)
     }
 
     #[inline(never)]
@@ -341,11 +341,11 @@ impl<'c> Configuration<'c> {
         file: &str,
         operator: BinaryOperator,
         span: Span,
-    ) -> Going<'f>
+    ) -> FlowResult<'f>
         requires { IsReady (operated file.now operator span) self.old }
         ensures { Does (operated file.now operator span) self.old result self.new }
     {
-        let right = self.operands.take();
+        let right = self.operands.pop_top();
         self.apply(alloc, file, operator, &right, span)
     }
 
@@ -359,7 +359,7 @@ impl<'c> Configuration<'c> {
         operator: BinaryOperator,
         right: &Operand,
         span: Span,
-    ) -> Going<'f>
+    ) -> FlowResult<'f>
         requires { self.old.operands ≢ [] }
         ensures { Does (λ c. on_one (λ a. binary_of file.now operator a right.now span)
             c.operands c) self.old result self.new }
@@ -373,7 +373,7 @@ impl<'c> Configuration<'c> {
 
     // So many operands from the top, the last one first.
     #[inline(always)]
-    pub(crate) fn take_topmost(&mut self, count: usize) -> TeraResult<Vec<Operand>>
+    pub(crate) fn pop_operands(&mut self, count: usize) -> TeraResult<Vec<Operand>>
         requires { topmost count self.old.operands ≢ None }
         ensures taken { IfOk result (λ all. topmost count self.old.operands
             ≡ Some (all.items, self.new.operands)) }
@@ -388,16 +388,16 @@ impl<'c> Configuration<'c> {
 
     // The arguments are read and dropped.
     #[inline(never)]
-    pub(crate) fn take_above<'f>(&mut self, arguments: usize, span: Span) -> Going<'f>
+    pub(crate) fn request_super<'f>(&mut self, arguments: usize, span: Span) -> FlowResult<'f>
         requires { IsReady (above_taken arguments span) self.old }
         ensures { Does (above_taken arguments span) self.old result self.new }
     {
-        drop(self.take_topmost(arguments)?);
-        Ok(Flow::Ask(Request::Above(span)))
+        drop(self.pop_operands(arguments)?);
+        Ok(Flow::Call(Request::Super(span)))
     }
 
     // The text that a component is handed, if it has a body. It is kept in shared form, so that a copy of it is a count.
-    fn handed(&mut self, alloc: Global, has_body: bool) -> TeraResult<Option<Value>>
+    fn component_body(&mut self, alloc: Global, has_body: bool) -> TeraResult<Option<Value>>
         requires { handed has_body self.old.operands ≢ None }
         ensures handed { IfOk result (λ body. handed has_body self.old.operands
             ≡ Some (body, self.new.operands)) }
@@ -410,12 +410,12 @@ impl<'c> Configuration<'c> {
         if !has_body {
             return Ok(None);
         }
-        let operand = self.operands.take();
-        Ok(Some(operand.into_value().shared(alloc)?))
+        let operand = self.operands.pop_top();
+        Ok(Some(operand.into_value().into_shared(alloc)?))
     }
 
     #[inline(never)]
-    pub(crate) fn take_component<'f, O: Objects>(
+    pub(crate) fn request_component<'f, O: Objects>(
         &mut self,
         machine: &VirtualMachine<'_, O>,
         file: &str,
@@ -423,7 +423,7 @@ impl<'c> Configuration<'c> {
         keys: &Keys<'f>,
         has_body: bool,
         span: Span,
-    ) -> Going<'f>
+    ) -> FlowResult<'f>
         requires { IsReady
             (component_taken (here_of O.engine machine.now file.now self.old)
             name.now keys.now has_body span) self.old }
@@ -432,25 +432,25 @@ impl<'c> Configuration<'c> {
             name.now keys.now has_body span) self.old result self.new }
     {
         let keys = keys.as_slice();
-        let operands = self.take_topmost(keys.len())?;
-        let body = self.handed(machine.alloc, has_body)?;
+        let operands = self.pop_operands(keys.len())?;
+        let body = self.component_body(machine.alloc, has_body)?;
         let given = tera_operators::entries(machine.alloc, file, keys, operands)?;
-        let asked = AskedComponent {
+        let asked = ComponentRequest {
             name,
             given,
             body,
             safe: machine.autoescape,
             span,
         };
-        Ok(Flow::Ask(Request::Component(Box::new(machine.alloc, asked)?)))
+        Ok(Flow::Call(Request::Component(Box::new(machine.alloc, asked)?)))
     }
 
     #[inline(always)]
-    pub(crate) fn pop_jump_if_false<'f>(&mut self, skip: usize) -> Going<'f>
+    pub(crate) fn pop_jump_if_false<'f>(&mut self, skip: usize) -> FlowResult<'f>
         requires { IsReady (popped_branch skip) self.old }
         ensures { Does (popped_branch skip) self.old result self.new }
     {
-        let operand = self.operands.take();
+        let operand = self.operands.pop_top();
         if operand.value().is_truthy() {
             Ok(Flow::On)
         } else {
@@ -460,22 +460,22 @@ impl<'c> Configuration<'c> {
 
     // An operand of this truth stays where it jumps; any other is dropped, and it goes on.
     #[inline(never)]
-    pub(crate) fn jump_or_pop<'f>(&mut self, truth: bool, skip: usize) -> Going<'f>
+    pub(crate) fn jump_or_pop<'f>(&mut self, truth: bool, skip: usize) -> FlowResult<'f>
         requires { IsReady (kept_if truth skip) self.old }
         ensures { Does (kept_if truth skip) self.old result self.new }
     {
         if self.operands.top().value().is_truthy() == truth {
             return Ok(Flow::Skip(skip));
         }
-        drop(self.operands.take());
+        drop(self.operands.pop_top());
         Ok(Flow::On)
     }
 }
 
 // It goes on at the next instruction, unless memory was refused.
 #[inline(always)]
-pub(crate) fn going_on<'f>(done: Result<(), AllocError>) -> Going<'f>
-    ensures { result ≡ going_on done }
+pub(crate) fn continue_after<'f>(done: Result<(), AllocError>) -> FlowResult<'f>
+    ensures { result ≡ continue_after done }
 {
     done?;
     Ok(Flow::On)
@@ -483,7 +483,7 @@ pub(crate) fn going_on<'f>(done: Result<(), AllocError>) -> Going<'f>
 
 // The same where a value was put out, and else a fault: it is undefined.
 #[inline(always)]
-pub(crate) fn going_on_if<'f>(alloc: Global, file: &str, span: Span, is_put: bool) -> Going<'f>
+pub(crate) fn continue_if_written<'f>(alloc: Global, file: &str, span: Span, is_put: bool) -> FlowResult<'f>
     ensures ok { IfOk result (λ on. is_put ≡ true × on ≡ flow.On) }
     ensures err { IfErr result (λ e. is_put ≡ false
         × Tells e (rendering_error (record { file = file.now; span = span }))) }
@@ -491,11 +491,11 @@ pub(crate) fn going_on_if<'f>(alloc: Global, file: &str, span: Span, is_put: boo
     if is_put {
         Ok(Flow::On)
     } else {
-        Err(undefined_written(alloc, file, span))
+        Err(undefined_fault(alloc, file, span))
     }
 }
 
-pub(crate) fn undefined_written(alloc: Global, file: &str, span: Span) -> Error
+pub(crate) fn undefined_fault(alloc: Global, file: &str, span: Span) -> Error
     ensures { Tells result (rendering_error (record { file = file.now; span = span })) }
 {
     Error::rendering_of(alloc, "is undefined", file, span)

@@ -16,8 +16,8 @@ ghost use Rattle.tera_machine.specs.Together.{done};
 ghost use Rattle.tera_machine.specs.Paths.{Stands, start_at, truth_of};
 
 use crate::configuration::Configuration;
-use crate::instructions::going_on;
-use crate::machine::{Going, VirtualMachine};
+use crate::instructions::continue_after;
+use crate::machine::{FlowResult, VirtualMachine};
 use std::alloc::Global;
 use tera_code::{Chunk, IntegerComparison, Steps, Tally};
 use tera_objects::Objects;
@@ -29,7 +29,7 @@ impl<'c> Configuration<'c> {
     /// Reads a name that is used up behind it. Where an integer is loaded there, it is told apart by a look at that instruction
     /// alone.
     #[inline(always)]
-    pub(crate) fn read_on<'f, O: Objects, T: Tally>(
+    pub(crate) fn run_name_ahead<'f, O: Objects, T: Tally>(
         &mut self,
         machine: &VirtualMachine<'_, O>,
         chunk: &Chunk,
@@ -37,7 +37,7 @@ impl<'c> Configuration<'c> {
         name: &Name,
         span: Span,
         steps: &mut Steps<T>,
-    ) -> Going<'f>
+    ) -> FlowResult<'f>
         requires there { slice_get chunk.now.code at.old
             ≡ Some (instruction.LoadName name.now span) }
         requires few { length chunk.now.code < 2 ^ 64 }
@@ -47,16 +47,16 @@ impl<'c> Configuration<'c> {
             chunk.now.code (suc (steps.new - steps.old)) at.old) self.old result self.new }
     {
         if chunk.loads_integer_at(*at + 1) {
-            self.read_before_integer(machine, chunk, at, name, span, steps)
+            self.run_name_before_integer(machine, chunk, at, name, span, steps)
         } else {
-            self.read(machine, chunk, at, name, span, steps)
+            self.run_path(machine, chunk, at, name, span, steps)
         }
     }
 
     /// Reads a name, behind which an integer is loaded. An integer that the innermost turn binds to the name is compared with
     /// that one where it lies, if this is what stands there.
     #[inline(never)]
-    pub(crate) fn read_before_integer<'f, O: Objects, T: Tally>(
+    pub(crate) fn run_name_before_integer<'f, O: Objects, T: Tally>(
         &mut self,
         machine: &VirtualMachine<'_, O>,
         chunk: &Chunk,
@@ -64,7 +64,7 @@ impl<'c> Configuration<'c> {
         name: &Name,
         span: Span,
         steps: &mut Steps<T>,
-    ) -> Going<'f>
+    ) -> FlowResult<'f>
         requires there { slice_get chunk.now.code at.old
             ≡ Some (instruction.LoadName name.now span) }
         requires few { length chunk.now.code < 2 ^ 64 }
@@ -77,12 +77,12 @@ impl<'c> Configuration<'c> {
             Some(number) => match chunk.integer_comparison_at(*at + 1, steps) {
                 Some(comparison) => {
                     *at += 2;
-                    let truth = compared(number, span, &comparison);
-                    self.test_or_put(chunk, at, truth, steps)
+                    let truth = compare_integer(number, span, &comparison);
+                    self.test_or_push(chunk, at, truth, steps)
                 }
-                None => self.read(machine, chunk, at, name, span, steps),
+                None => self.run_path(machine, chunk, at, name, span, steps),
             },
-            None => self.read(machine, chunk, at, name, span, steps),
+            None => self.run_path(machine, chunk, at, name, span, steps),
         }
     }
 
@@ -108,7 +108,7 @@ impl<'c> Configuration<'c> {
         number: i64,
         span: Span,
         steps: &mut Steps<T>,
-    ) -> Going<'f>
+    ) -> FlowResult<'f>
         requires there { slice_get chunk.now.code at.old
             ≡ Some (instruction.LoadConst (val.int number) span) }
         requires few { length chunk.now.code < 2 ^ 64 }
@@ -118,14 +118,14 @@ impl<'c> Configuration<'c> {
             chunk.now.code (suc (steps.new - steps.old)) at.old) self.old result self.new }
     {
         if self.operands.is_empty() {
-            return going_on(self.load_integer(number, span));
+            return continue_after(self.load_integer(number, span));
         }
         match chunk.operator_at(*at + 1, steps) {
             Some((operator, whole)) => {
                 *at += 1;
                 self.operate_with(machine.alloc, chunk.file(), operator, number, span, whole)
             }
-            None => going_on(self.load_integer(number, span)),
+            None => continue_after(self.load_integer(number, span)),
         }
     }
 
@@ -139,7 +139,7 @@ impl<'c> Configuration<'c> {
         number: i64,
         span: Span,
         whole: Span,
-    ) -> Going<'f>
+    ) -> FlowResult<'f>
         requires { self.old.operands ≢ [] }
         ensures { Does (λ c. on_one (λ a. binary_of file.now operator a
             (record { value = int number; span = span }) whole) c.operands c)
@@ -152,7 +152,7 @@ impl<'c> Configuration<'c> {
 
 // What a comparison makes of an integer on its left.
 #[inline(always)]
-fn compared(number: i128, span: Span, comparison: &IntegerComparison) -> Operand
+fn compare_integer(number: i128, span: Span, comparison: &IntegerComparison) -> Operand
     requires { IsTrue (is_comparison comparison.now.operator) }
     ensures { (file : site.Name) → truth_of file (record { value = int number; span = span })
         (with_integer comparison.now) ≡ Ok result }

@@ -1,15 +1,15 @@
 //! The stack machine that runs a compiled body.
 #![tactic(auto)]
 
-pub mod asked;
-pub mod blocks;
-pub mod bodies;
+pub mod requests;
+pub mod open_bodies;
+pub mod block_bodies;
 mod built_in;
 mod calls;
 mod captures;
 pub mod components;
 pub mod configuration;
-pub mod ended;
+pub mod ended_blocks;
 pub mod includes;
 pub mod instructions;
 mod integers;
@@ -17,20 +17,20 @@ mod loops;
 pub mod machine;
 pub mod open_things;
 mod paths;
-pub mod place;
-mod printing;
+pub mod loop_place;
+mod printing_loops;
 mod refusals;
-mod step;
-pub mod texts;
-mod told;
-pub mod wanted;
+mod dispatch;
+pub mod rendered_text;
+mod call_notes;
+pub mod wanted_block;
 
-pub use asked::{Asked, AskedComponent, AskedTemplate};
-pub use blocks::{OpenBlock, OpenBlocks};
+pub use requests::{BlockRequest, ComponentRequest, IncludeRequest};
+pub use open_bodies::{OpenBlock, OpenBodies};
 pub use configuration::Configuration;
-pub use ended::Ended;
+pub use ended_blocks::EndedBlocks;
 pub use machine::VirtualMachine;
 pub use open_things::{Numbered, OpenThings};
-pub use place::LoopPlace;
-pub use texts::Texts;
-pub use wanted::Wanted;
+pub use loop_place::LoopPlace;
+pub use rendered_text::RenderedText;
+pub use wanted_block::WantedBlock;

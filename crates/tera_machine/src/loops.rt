@@ -9,8 +9,8 @@ ghost use Rattle.tera_machine.specs.Loops.{loop_started, turned, loop_ended, kep
 ghost use Rattle.tera_machine.specs.Subject.{here_of};
 
 use crate::configuration::Configuration;
-use crate::machine::{Flow, Going, VirtualMachine};
-use crate::place::LoopPlace;
+use crate::machine::{Flow, FlowResult, VirtualMachine};
+use crate::loop_place::LoopPlace;
 use std::alloc::Global;
 use tera_code::LentName;
 use tera_objects::Objects;
@@ -20,7 +20,7 @@ use tera_values::{Span, TeraResult, Value};
 
 // The loop over the operand at its first turn, or none where there is no item. What is no target of a loop is a fault at
 // the operand.
-fn opened(
+fn open_loop(
     alloc: Global,
     file: &str,
     key: &Option<LentName<'_>>,
@@ -57,7 +57,7 @@ impl<'c> Configuration<'c> {
         name: &LentName<'_>,
         counts: bool,
         size: usize,
-    ) -> Going<'f>
+    ) -> FlowResult<'f>
         requires ready { IsReady (loop_started (here_of O.engine machine.now file.now self.old)
             next key.now name.now counts size) self.old }
         requires small { IsSmall (loop_started (here_of O.engine machine.now file.now self.old)
@@ -66,8 +66,8 @@ impl<'c> Configuration<'c> {
             next key.now name.now counts size) self.old result self.new }
     {
         let alloc = machine.alloc;
-        let operand = self.operands.take();
-        match opened(alloc, file, key, name, counts, operand)? {
+        let operand = self.operands.pop_top();
+        match open_loop(alloc, file, key, name, counts, operand)? {
             None => Ok(Flow::Skip(size + 2)),
             Some(opened) => {
                 self.scopes.open_loop(opened)?;
@@ -84,7 +84,7 @@ impl<'c> Configuration<'c> {
 
     // The start of the body stands with the loop: nothing is looked for.
     #[inline(always)]
-    pub(crate) fn next_turn<'f>(&mut self) -> Going<'f>
+    pub(crate) fn next_turn<'f>(&mut self) -> FlowResult<'f>
         requires { IsReady turned self.old }
         ensures { Does turned self.old result self.new }
     {
@@ -102,7 +102,7 @@ impl<'c> Configuration<'c> {
         ensures stays { around_of self.new.scopes ≡ around_of self.old.scopes }
     {
         self.scopes.close_loop();
-        let place = self.places.take();
+        let place = self.places.pop_top();
         let LoopPlace {
             start: _,
             size: _,
@@ -111,7 +111,7 @@ impl<'c> Configuration<'c> {
         kept
     }
 
-    pub(crate) fn end_loop<'f>(&mut self, skip: usize) -> Going<'f>
+    pub(crate) fn end_loop<'f>(&mut self, skip: usize) -> FlowResult<'f>
         requires { IsReady (loop_ended skip) self.old }
         ensures { Does (loop_ended skip) self.old result self.new }
     {
@@ -120,29 +120,29 @@ impl<'c> Configuration<'c> {
     }
 
     #[inline(always)]
-    pub(crate) fn keep<'f>(&mut self) -> Going<'f>
+    pub(crate) fn collect<'f>(&mut self) -> FlowResult<'f>
         requires { IsReady kept self.old }
         ensures { Does kept self.old result self.new }
     {
-        let operand = self.operands.take();
-        let mut place = self.places.take();
+        let operand = self.operands.pop_top();
+        let mut place = self.places.pop_top();
         place.kept.push(operand.into_value())?;
         self.places.push(place)?;
         Ok(Flow::On)
     }
 
     #[inline(always)]
-    pub(crate) fn end_comprehension<'f>(&mut self, alloc: Global, span: Span) -> Going<'f>
+    pub(crate) fn end_comprehension<'f>(&mut self, alloc: Global, span: Span) -> FlowResult<'f>
         requires { IsReady (comprehension_ended span) self.old }
         ensures { Does (comprehension_ended span) self.old result self.new }
     {
-        let value = Value::array(self.close_loop()).shared(alloc)?;
+        let value = Value::array(self.close_loop()).into_shared(alloc)?;
         self.operands.push(Operand::new(value, span))?;
         Ok(Flow::Skip(1))
     }
 
     // Where the body of the innermost loop starts, and its size.
-    pub(crate) fn innermost(&self) -> Option<(usize, usize)>
+    pub(crate) fn innermost_loop(&self) -> Option<(usize, usize)>
         ensures { result ≡ innermost (config_of self.now).loops }
     {
         if !self.scopes.is_in_loop() {

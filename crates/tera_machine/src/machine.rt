@@ -14,13 +14,13 @@ ghost use Rattle.tera_machine.specs.Open.{TakesBefore, TakesRequested, TakesBody
 ghost use Rattle.tera_errors.specs.Prelude.{Lacks};
 ghost use Rattle.tera_machine.specs.Subject.{Subject, IsLinked, IsOf, Belong, kept_beside, meant_from, engine_of, place_at, place_of, Means};
 
-use crate::asked::{Asked, AskedComponent, AskedTemplate, Request};
-use crate::blocks::OpenBlocks;
-use crate::bodies::{Back, Behind, Inside, Waiting};
-use crate::components::{Beside, Called};
+use crate::requests::{BlockRequest, ComponentRequest, IncludeRequest, Request};
+use crate::open_bodies::OpenBodies;
+use crate::block_bodies::{BodyEnd, ResumePoint, EnteredBlock, Waiting};
+use crate::components::{OneOffComponents, ComponentBody};
 use crate::configuration::Configuration;
-use crate::told::called_from;
-use crate::wanted::Wanted;
+use crate::call_notes::with_call_notes;
+use crate::wanted_block::WantedBlock;
 use std::alloc::Global;
 use std::marker::Brand;
 use tera_code::{Steps, Tally};
@@ -41,11 +41,11 @@ pub enum Flow<'f> {
     /// At the end of the body.
     Out,
     /// At the next instruction, when another body was run.
-    Ask(Request<'f>),
+    Call(Request<'f>),
 }
 
 /// Where the machine goes on, or why it does not.
-pub(crate) type Going<'f> = TeraResult<Flow<'f>>;
+pub(crate) type FlowResult<'f> = TeraResult<Flow<'f>>;
 
 /// What a run stands on, and how high the count of instructions may rise. Contracts alone see it.
 pub trait Limit {
@@ -71,7 +71,7 @@ pub struct VirtualMachine<'t, O> {
     pub(crate) autoescape: bool,
     pub(crate) objects: &'t O,
     pub(crate) template: Option<FoundTemplate<'t>>,
-    pub(crate) beside: Option<Beside<'t>>,
+    pub(crate) beside: Option<OneOffComponents<'t>>,
     pub(crate) depth: usize,
 }
 
@@ -145,7 +145,7 @@ impl<'t, O: Objects> VirtualMachine<'t, O> {
         ensures depth { result.depth ≡ self.entry.depth }
     {
         VirtualMachine {
-            beside: Some(Beside { text }),
+            beside: Some(OneOffComponents { text }),
             ..self
         }
     }
@@ -174,7 +174,7 @@ impl<'t, O: Objects> VirtualMachine<'t, O> {
         ensures stays { OnOk result (around_of configuration.new.scopes
             ≡ around_of configuration.old.scopes) }
     {
-        let mut blocks = OpenBlocks::new(self.alloc, Wanted::none());
+        let mut blocks = OpenBodies::new(self.alloc, WantedBlock::none());
         self.run_counted::<Brand, T>(body, &mut blocks, configuration, steps)
     }
 
@@ -202,13 +202,13 @@ impl<'t, O: Objects> VirtualMachine<'t, O> {
         ensures text { Gives string_bytes result
             (block_of block.now (meant_from about configuration.old)) }
     {
-        let wanted = Wanted::block(block)?;
-        let mut blocks = OpenBlocks::new(self.alloc, wanted);
+        let wanted = WantedBlock::of_name(block)?;
+        let mut blocks = OpenBodies::new(self.alloc, wanted);
         match self.run_counted::<Brand, T>(body, &mut blocks, configuration, steps) {
             Ok(()) => {}
             Err(error) => return Err(error),
         }
-        let OpenBlocks {
+        let OpenBodies {
             opened: _,
             above: _,
             wanted,
@@ -221,7 +221,7 @@ impl<'t, O: Objects> VirtualMachine<'t, O> {
     fn run_counted<M: Limit, T: Tally>(
         &self,
         first: Body<'t>,
-        blocks: &mut OpenBlocks<'t>,
+        blocks: &mut OpenBodies<'t>,
         configuration: &mut Configuration<'_>,
         steps: &mut Steps<T>,
     ) -> TeraResult<()>
@@ -243,7 +243,7 @@ impl<'t, O: Objects> VirtualMachine<'t, O> {
         let mut open: Stack<Waiting<'t>> = Stack::new(self.alloc);
         match self.run_open::<M, T>(first, blocks, configuration, steps, &mut open) {
             Ok(()) => Ok(()),
-            Err(error) => Err(called_from(self.alloc, error, &open)),
+            Err(error) => Err(with_call_notes(self.alloc, error, &open)),
         }
     }
 
@@ -253,7 +253,7 @@ impl<'t, O: Objects> VirtualMachine<'t, O> {
     fn run_open<M: Limit, T: Tally>(
         &self,
         first: Body<'t>,
-        blocks: &mut OpenBlocks<'t>,
+        blocks: &mut OpenBodies<'t>,
         configuration: &mut Configuration<'_>,
         steps: &mut Steps<T>,
         open: &mut Stack<Waiting<'t>>,
@@ -310,8 +310,8 @@ impl<'t, O: Objects> VirtualMachine<'t, O> {
                 Flow::Skip(count) => at = next + count,
                 Flow::To(place, count) => at = place + count,
                 Flow::Out => at = chunk.len(),
-                Flow::Ask(request) => {
-                    match machine.take::<M>(body, next, request, blocks, configuration, open) {
+                Flow::Call(request) => {
+                    match machine.start_body::<M>(body, next, request, blocks, configuration, open) {
                         Ok(inner) => body = inner,
                         Err(error) => return Err(error),
                     }
@@ -324,12 +324,12 @@ impl<'t, O: Objects> VirtualMachine<'t, O> {
 
     // The body that is requested begins, and the one that requests it waits, to go on at that position.
     #[inline(never)]
-    fn take<M: Limit>(
+    fn start_body<M: Limit>(
         &mut self,
         here: Body<'t>,
         next: usize,
         request: Request<'t>,
-        blocks: &mut OpenBlocks<'t>,
+        blocks: &mut OpenBodies<'t>,
         configuration: &mut Configuration<'_>,
         waiting: &mut Stack<Waiting<'t>>,
     ) -> TeraResult<Body<'t>>
@@ -342,31 +342,31 @@ impl<'t, O: Objects> VirtualMachine<'t, O> {
     {
         match request {
             Request::Block(name, span) => {
-                let asked = Asked::Block(name, span);
-                self.take_block::<M>(here, next, asked, blocks, configuration, waiting)
+                let asked = BlockRequest::Block(name, span);
+                self.start_block::<M>(here, next, asked, blocks, configuration, waiting)
             }
-            Request::Above(span) => {
-                let asked = Asked::Above(span);
-                self.take_block::<M>(here, next, asked, blocks, configuration, waiting)
+            Request::Super(span) => {
+                let asked = BlockRequest::Super(span);
+                self.start_block::<M>(here, next, asked, blocks, configuration, waiting)
             }
             Request::Include(name, span) => {
-                let asked = AskedTemplate { name, span };
-                self.include::<M>(here, next, asked, blocks, configuration, waiting)
+                let asked = IncludeRequest { name, span };
+                self.start_include::<M>(here, next, asked, blocks, configuration, waiting)
             }
             Request::Component(asked) => {
-                self.component::<M>(here, next, asked, blocks, configuration, waiting)
+                self.start_component::<M>(here, next, asked, blocks, configuration, waiting)
             }
         }
     }
 
     // The same of a block, or of what a template above makes of it.
     #[inline(never)]
-    fn take_block<M: Limit>(
+    fn start_block<M: Limit>(
         &self,
         here: Body<'t>,
         next: usize,
-        asked: Asked<'t>,
-        blocks: &mut OpenBlocks<'t>,
+        asked: BlockRequest<'t>,
+        blocks: &mut OpenBodies<'t>,
         configuration: &mut Configuration<'_>,
         waiting: &mut Stack<Waiting<'t>>,
     ) -> TeraResult<Body<'t>>
@@ -380,7 +380,7 @@ impl<'t, O: Objects> VirtualMachine<'t, O> {
             Ok(inside) => inside,
             Err(error) => return Err(error),
         };
-        let Inside {
+        let EnteredBlock {
             definer,
             above,
             outer,
@@ -390,19 +390,19 @@ impl<'t, O: Objects> VirtualMachine<'t, O> {
             at: next,
             above,
             outer,
-            back: Back::Taken(asked),
+            back: BodyEnd::Block(asked),
         })?;
         Ok(definer.body)
     }
 
     // The same of the template that is included.
     #[inline(never)]
-    fn include<M: Limit>(
+    fn start_include<M: Limit>(
         &mut self,
         here: Body<'t>,
         next: usize,
-        asked: AskedTemplate<'t>,
-        blocks: &mut OpenBlocks<'t>,
+        asked: IncludeRequest<'t>,
+        blocks: &mut OpenBodies<'t>,
         configuration: &mut Configuration<'_>,
         waiting: &mut Stack<Waiting<'t>>,
     ) -> TeraResult<Body<'t>>
@@ -413,7 +413,7 @@ impl<'t, O: Objects> VirtualMachine<'t, O> {
             Written blocks.old configuration.old waiting.old self.new result blocks.new
             configuration.new waiting.new }
     {
-        let found = match self.included::<M>(here, next, asked, blocks) {
+        let found = match self.resolve_include::<M>(here, next, asked, blocks) {
             Ok(found) => found,
             Err(error) => return Err(error),
         };
@@ -426,7 +426,7 @@ impl<'t, O: Objects> VirtualMachine<'t, O> {
             at: next,
             above,
             outer,
-            back: Back::Included {
+            back: BodyEnd::Include {
                 around,
                 template: self.template,
             },
@@ -437,12 +437,12 @@ impl<'t, O: Objects> VirtualMachine<'t, O> {
 
     // The same of the component that is called.
     #[inline(never)]
-    fn component<M: Limit>(
+    fn start_component<M: Limit>(
         &mut self,
         here: Body<'t>,
         next: usize,
-        asked: Box<AskedComponent<'t>>,
-        blocks: &mut OpenBlocks<'t>,
+        asked: Box<ComponentRequest<'t>>,
+        blocks: &mut OpenBodies<'t>,
         configuration: &mut Configuration<'_>,
         waiting: &mut Stack<Waiting<'t>>,
     ) -> TeraResult<Body<'t>>
@@ -456,11 +456,11 @@ impl<'t, O: Objects> VirtualMachine<'t, O> {
         let asked = Box::into_inner(asked);
         let safe = asked.safe;
         let span = asked.span;
-        let called = match self.called::<M>(here, next, asked, configuration) {
+        let called = match self.resolve_component::<M>(here, next, asked, configuration) {
             Ok(called) => called,
             Err(error) => return Err(error),
         };
-        let Called {
+        let ComponentBody {
             body,
             context,
             depth,
@@ -474,7 +474,7 @@ impl<'t, O: Objects> VirtualMachine<'t, O> {
             at: next,
             above,
             outer,
-            back: Back::Called {
+            back: BodyEnd::Component {
                 around,
                 included,
                 template: self.template,
@@ -493,9 +493,9 @@ impl<'t, O: Objects> VirtualMachine<'t, O> {
     fn leave(
         &mut self,
         waiting: &mut Stack<Waiting<'t>>,
-        blocks: &mut OpenBlocks<'t>,
+        blocks: &mut OpenBodies<'t>,
         configuration: &mut Configuration<'_>,
-    ) -> TeraResult<Behind<'t>>
+    ) -> TeraResult<ResumePoint<'t>>
         requires waits { waiting.old ≢ [] }
         requires text { (config_of configuration.old).captures ≢ [] }
         requires state { HasOuter waiting.old configuration.old }
@@ -509,19 +509,19 @@ impl<'t, O: Objects> VirtualMachine<'t, O> {
             above,
             outer,
             back,
-        } = waiting.take();
+        } = waiting.pop_top();
         match back {
-            Back::Taken(asked) => {
+            BodyEnd::Block(asked) => {
                 configuration.end_body(asked, outer, &mut blocks.wanted)?;
                 blocks.leave(asked, above);
             }
-            Back::Included { around, template } => {
+            BodyEnd::Include { around, template } => {
                 self.template = template;
                 blocks.leave_apart(around, above);
                 blocks.included.pop();
                 configuration.end_include(outer)?;
             }
-            Back::Called {
+            BodyEnd::Component {
                 around,
                 included,
                 template,
@@ -536,6 +536,6 @@ impl<'t, O: Objects> VirtualMachine<'t, O> {
                 configuration.end_component(safe, span, outer)?;
             }
         }
-        Ok(Behind { body, at })
+        Ok(ResumePoint { body, at })
     }
 }

@@ -127,7 +127,7 @@ impl<T: Numbered> OpenThings<T> {
         match self.marks.insert(number, self.things.len()) {
             Ok(_) => Ok(()),
             Err(_) => {
-                drop(self.things.take());
+                drop(self.things.pop_top());
                 Err(AllocError)
             }
         }
@@ -139,7 +139,7 @@ impl<T: Numbered> OpenThings<T> {
     {
         let height = self.things.len();
         if height > self.start {
-            let Marked { thing, before } = self.things.take();
+            let Marked { thing, before } = self.things.pop_top();
             if height > FEW {
                 mark_again(&mut self.marks, thing.number(), before);
             }

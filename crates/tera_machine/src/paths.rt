@@ -16,27 +16,27 @@ ghost use Rattle.tera_machine.specs.Together.{done};
 ghost use Rattle.tera_machine.specs.Paths.{Start, Stands, Comes, Reaches, Breaks, start_at, topped, truth_of};
 
 use crate::configuration::Configuration;
-use crate::instructions::undefined_written;
-use crate::machine::{Flow, Going, VirtualMachine};
-use crate::texts::Texts;
+use crate::instructions::undefined_fault;
+use crate::machine::{Flow, FlowResult, VirtualMachine};
+use crate::rendered_text::RenderedText;
 use std::alloc::Global;
 use tera_code::{Chunk, Comparison, Steps, Tally};
 use tera_objects::Objects;
 use tera_operators::{LentOperand, Operand};
-use tera_state::Found;
+use tera_state::FoundValue;
 use tera_values::{Name, Span, TeraResult};
 
 /// What a name stands for, where it lies and is no key, counter or flag of a loop.
-fn lent<'a>(found: &Found<'a>, span: Span) -> Option<LentOperand<'a>>
+fn lent_operand<'a>(found: &FoundValue<'a>, span: Span) -> Option<LentOperand<'a>>
     ensures { IfSome result (λ o. o
         ≡ record { value = unwrap_or (found_value found.now) undefined; span = span }) }
 {
     match found {
-        Found::Kept(value) => {
+        FoundValue::Kept(value) => {
             let operand = LentOperand::new(Some(*value), span);
             Some(operand)
         }
-        Found::Nothing => Some(LentOperand::new(None, span)),
+        FoundValue::Unbound => Some(LentOperand::new(None, span)),
         _ => None,
     }
 }
@@ -77,7 +77,7 @@ fn attributes<'v, T: Tally>(
 /// Where it goes on if the instruction behind a position tests the topmost operand, which is this one. The position becomes that of this
 /// instruction.
 #[inline(always)]
-fn tested<'f, T: Tally>(
+fn branch_on<'f, T: Tally>(
     chunk: &Chunk,
     at: &mut usize,
     top: &LentOperand<'_>,
@@ -105,12 +105,12 @@ fn tested<'f, T: Tally>(
 
 /// Puts out an operand that lies elsewhere; what is undefined is a fault.
 #[inline(always)]
-fn put_out<'f, O: Objects>(
-    texts: &mut Texts,
+fn write_lent<'f, O: Objects>(
+    texts: &mut RenderedText,
     machine: &VirtualMachine<'_, O>,
     file: &str,
     operand: &LentOperand<'_>,
-) -> Going<'f>
+) -> FlowResult<'f>
     ensures { (c : Whole) → c.texts ≡ texts.old → Effected
         (put_out (output (here_of O.engine machine.now file.now c) operand.now) (config_of c))
         result (config_of (record c { texts = texts.new })) }
@@ -120,13 +120,13 @@ fn put_out<'f, O: Objects>(
             texts.append_value(machine.alloc, machine.objects, machine.autoescape, value)?;
             Ok(Flow::On)
         }
-        _ => Err(undefined_written(machine.alloc, file, operand.span())),
+        _ => Err(undefined_fault(machine.alloc, file, operand.span())),
     }
 }
 
 /// What a comparison with a constant makes of the operand on its left. The constant is read where it lies, too.
 #[inline(always)]
-fn compared(
+fn compare_with_constant(
     alloc: Global,
     file: &str,
     left: &LentOperand<'_>,
@@ -136,7 +136,7 @@ fn compared(
     ensures { Gives (λ o. o) result (truth_of file.now left.now comparison.now) }
 {
     let (constant, span) = (&comparison.constant, comparison.constant_span);
-    if let Some(value) = constant.lent() {
+    if let Some(value) = constant.shared_value() {
         let right = LentOperand::new(Some(value), span);
         return left.compare(alloc, file, comparison.operator, &right);
     }
@@ -150,7 +150,7 @@ impl<'c> Configuration<'c> {
     /// tests it, or those that compare it with a constant and test that. Nothing is copied or pushed on the way, and only what is
     /// not used up at once is put on the operands.
     #[inline(never)]
-    pub(crate) fn read<'f, O: Objects, T: Tally>(
+    pub(crate) fn run_path<'f, O: Objects, T: Tally>(
         &mut self,
         machine: &VirtualMachine<'_, O>,
         chunk: &Chunk,
@@ -158,7 +158,7 @@ impl<'c> Configuration<'c> {
         name: &Name,
         span: Span,
         steps: &mut Steps<T>,
-    ) -> Going<'f>
+    ) -> FlowResult<'f>
         requires there { slice_get chunk.now.code at.old
             ≡ Some (instruction.LoadName name.now span) }
         requires few { length chunk.now.code < 2 ^ 64 }
@@ -168,42 +168,42 @@ impl<'c> Configuration<'c> {
             chunk.now.code (suc (steps.new - steps.old)) at.old) self.old result self.new }
     {
         let alloc = machine.alloc;
-        let found = self.scopes.look(&name.sought());
-        let Some(first) = lent(&found, span) else {
+        let found = self.scopes.look(&name.as_name_ref());
+        let Some(first) = lent_operand(&found, span) else {
             let operand = Operand::new(found.to_value(alloc)?, span);
-            return self.use_up(alloc, chunk, at, operand, steps);
+            return self.finish_path(alloc, chunk, at, operand, steps);
         };
         let reached = match attributes(alloc, chunk, at, first, steps) {
             Ok(reached) => reached,
             Err(error) => return Err(error),
         };
-        if let Some(flow) = tested(chunk, at, &reached, steps) {
+        if let Some(flow) = branch_on(chunk, at, &reached, steps) {
             return Ok(flow);
         }
         if chunk.writes_top_at(*at + 1, steps) {
             *at += 1;
-            return put_out(&mut self.texts, machine, chunk.file(), &reached);
+            return write_lent(&mut self.texts, machine, chunk.file(), &reached);
         }
         let Some(comparison) = chunk.comparison_at(*at + 1, steps) else {
             let operand = reached.to_operand()?;
-            return self.put(operand);
+            return self.push_operand(operand);
         };
         *at += 2;
-        match compared(alloc, chunk.file(), &reached, &comparison) {
-            Ok(truth) => self.test_or_put(chunk, at, truth, steps),
+        match compare_with_constant(alloc, chunk.file(), &reached, &comparison) {
+            Ok(truth) => self.test_or_push(chunk, at, truth, steps),
             Err(error) => Err(error),
         }
     }
 
     /// The same with an operand of its own that was read.
-    fn use_up<'f, T: Tally>(
+    fn finish_path<'f, T: Tally>(
         &mut self,
         alloc: Global,
         chunk: &Chunk,
         at: &mut usize,
         operand: Operand,
         steps: &mut Steps<T>,
-    ) -> Going<'f>
+    ) -> FlowResult<'f>
         requires few { length chunk.now.code < 2 ^ 64 }
         requires there { at.old < length chunk.now.code }
         ensures stands { (s : Start) → s.here.file ≡ chunk.now.file →
@@ -215,11 +215,11 @@ impl<'c> Configuration<'c> {
             self.old result self.new }
     {
         let Some(comparison) = chunk.comparison_at(*at + 1, steps) else {
-            return self.test_or_put(chunk, at, operand, steps);
+            return self.test_or_push(chunk, at, operand, steps);
         };
         *at += 2;
-        match compared(alloc, chunk.file(), &operand.lend(), &comparison) {
-            Ok(truth) => self.test_or_put(chunk, at, truth, steps),
+        match compare_with_constant(alloc, chunk.file(), &operand.lend(), &comparison) {
+            Ok(truth) => self.test_or_push(chunk, at, truth, steps),
             Err(error) => Err(error),
         }
     }
@@ -227,13 +227,13 @@ impl<'c> Configuration<'c> {
     /// Tests an operand where the instruction behind a position does so, and else puts it on top of the others. The position becomes that
     /// of the last instruction that is done.
     #[inline(always)]
-    pub(crate) fn test_or_put<'f, T: Tally>(
+    pub(crate) fn test_or_push<'f, T: Tally>(
         &mut self,
         chunk: &Chunk,
         at: &mut usize,
         operand: Operand,
         steps: &mut Steps<T>,
-    ) -> Going<'f>
+    ) -> FlowResult<'f>
         requires few { length chunk.now.code < 2 ^ 64 }
         requires there { at.old < length chunk.now.code }
         ensures stands { (s : Start) (c : Config) → Comes s chunk.now.code at.old steps.old c →
@@ -243,9 +243,9 @@ impl<'c> Configuration<'c> {
             Does (λ _. done s.here chunk.now.code (suc (steps.new - s.count)) s.at s.config)
             self.old result self.new }
     {
-        if let Some(flow) = tested(chunk, at, &operand.lend(), steps) {
+        if let Some(flow) = branch_on(chunk, at, &operand.lend(), steps) {
             return Ok(flow);
         }
-        self.put(operand)
+        self.push_operand(operand)
     }
 }

@@ -38,7 +38,7 @@ pub(crate) fn open_block(alloc: Global, name: &Name, file: &str, span: Span) -> 
 
 /// Nobody above defines the block that is open.
 #[inline(never)]
-pub(crate) fn none_above(alloc: Global, file: &str, span: Span) -> Error
+pub(crate) fn no_definer_above(alloc: Global, file: &str, span: Span) -> Error
     ensures { Tells result (rendering_error (record { file = file.now; span = span })) }
 {
     let words = "no template above defines this block, so `super()` has nothing to put out";

@@ -9,8 +9,8 @@ use Rattle.tera_syntax_tree.specs.Tree.{Nodes}
 use Rattle.tera_syntax_tree.specs.Calls as called
 use Rattle.tera_syntax_tree.specs.Calls.{AFilter, ATest, AFunction, AComponent, calls}
 use Rattle.tera_values.specs.Alphabet.{Mark, template, marked_safe, escaped, made, outside, Marked}
-use Rattle.tera_built_ins.specs.declared.filter.BuiltInFilter.{BuiltInFilter}
-use Rattle.tera_built_ins.specs.declared.function.BuiltInFunction.{BuiltInFunction}
+use Rattle.tera_built_ins.specs.declared.built_in_filter.BuiltInFilter.{BuiltInFilter}
+use Rattle.tera_built_ins.specs.declared.built_in_function.BuiltInFunction.{BuiltInFunction}
 use Rattle.tera_objects.specs.Calling.{answer_of}
 use Rattle.tera_objects.specs.Engine.{OwnFilter, OwnFunction, Callee, own, built_in, filter_at, function_at}
 use Rattle.tera_marks.specs.Origin.{is_markup}

@@ -7,9 +7,9 @@ use Rattle.tera_values.specs.Alphabet.{Marked, plain, marking, marked_safe, outs
 use Rattle.tera_values.specs.Escape.{escape_html}
 use Rattle.tera_values.specs.Named.{Named}
 use Rattle.tera_values.specs.Val.{Val, ValOf, text}
-use Rattle.tera_built_ins.specs.declared.filter.BuiltInFilter.{BuiltInFilter}
-use Rattle.tera_built_ins.specs.declared.test.BuiltInTest.{BuiltInTest}
-use Rattle.tera_built_ins.specs.declared.function.BuiltInFunction.{BuiltInFunction}
+use Rattle.tera_built_ins.specs.declared.built_in_filter.BuiltInFilter.{BuiltInFilter}
+use Rattle.tera_built_ins.specs.declared.built_in_test.BuiltInTest.{BuiltInTest}
+use Rattle.tera_built_ins.specs.declared.built_in_function.BuiltInFunction.{BuiltInFunction}
 use Rattle.tera_state.specs.Scope.{AroundOf, VariablesOf}
 use Rattle.tera_state.specs.View.{View, escaping_in}
 use Rattle.tera_objects.specs.Engine.{Engine, OwnFilter, OwnTest, OwnFunction, Callee, own, built_in, filter_at, test_at, function_at, built_in_filters}

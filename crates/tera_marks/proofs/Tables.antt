@@ -4,12 +4,12 @@ use Rattle.tera_values.specs.Alphabet.{Marked, plain, marking}
 use Rattle.tera_values.specs.Escape.{escape_html}
 use Rattle.tera_values.specs.Named.{Named}
 use Rattle.tera_values.specs.Val.{ValOf}
-use Rattle.tera_built_ins.specs.declared.filter.BuiltInFilter.{BuiltInFilter}
-use Rattle.tera_built_ins.specs.declared.filter.BuiltInFilter.TheVariants as filter
-use Rattle.tera_built_ins.specs.declared.test.BuiltInTest.{BuiltInTest}
-use Rattle.tera_built_ins.specs.declared.test.BuiltInTest.TheVariants as test
-use Rattle.tera_built_ins.specs.declared.function.BuiltInFunction.{BuiltInFunction}
-use Rattle.tera_built_ins.specs.declared.function.BuiltInFunction.TheVariants as function
+use Rattle.tera_built_ins.specs.declared.built_in_filter.BuiltInFilter.{BuiltInFilter}
+use Rattle.tera_built_ins.specs.declared.built_in_filter.BuiltInFilter.TheVariants as filter
+use Rattle.tera_built_ins.specs.declared.built_in_test.BuiltInTest.{BuiltInTest}
+use Rattle.tera_built_ins.specs.declared.built_in_test.BuiltInTest.TheVariants as test
+use Rattle.tera_built_ins.specs.declared.built_in_function.BuiltInFunction.{BuiltInFunction}
+use Rattle.tera_built_ins.specs.declared.built_in_function.BuiltInFunction.TheVariants as function
 use Rattle.tera_built_ins.specs.Escaping.{Escaping}
 use Rattle.tera_built_ins.specs.Filters.{filter_of}
 use Rattle.tera_built_ins.specs.Tests.{is_text, is_integer, is_map, is_bool, is_array, is_none, is_iterable}

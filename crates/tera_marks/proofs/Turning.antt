@@ -5,7 +5,7 @@ use Rattle.tera_errors.specs.Site.{Name}
 use Rattle.tera_errors.specs.Fault.{Fault, message}
 use Rattle.tera_values.specs.Alphabet.{Marked, plain, marking, made}
 use Rattle.tera_values.specs.Val.{KeyVal, kbool, kint, ktext, ValOf, int, text}
-use Rattle.tera_state.specs.Found.{key_as_value_in}
+use Rattle.tera_state.specs.FoundValue.{key_as_value_in}
 use Rattle.tera_state.specs.Items.{ItemOf, unkeyed, items_in}
 use Rattle.tera_state.specs.Scope.{TurnOf, Heading, counters, named_item, turn, turns_from, is_map, turns_over, loop_turns_in}
 use Rattle.tera_marks.proofs.Claim.{Claim}

@@ -9,8 +9,8 @@ use Rattle.tera_syntax_tree.specs.Calls.{AFilter, calls}
 use Rattle.tera_values.specs.Alphabet.{Mark, template, marked_safe, escaped, made, outside, Marked}
 use Rattle.tera_values.specs.Val.{Val, Vals, Entries, text, array, map as map_of, no_items, item, no_entries, entry}
 use Rattle.tera_values.specs.Named.{Named}
-use Rattle.tera_built_ins.specs.declared.filter.BuiltInFilter.{BuiltInFilter}
-use Rattle.tera_built_ins.specs.declared.filter.BuiltInFilter.TheVariants as filter
+use Rattle.tera_built_ins.specs.declared.built_in_filter.BuiltInFilter.{BuiltInFilter}
+use Rattle.tera_built_ins.specs.declared.built_in_filter.BuiltInFilter.TheVariants as filter
 use Rattle.tera_state.specs.View.{View}
 use Rattle.tera_objects.specs.Engine.{Engine, OwnFilter, OwnFunction, Callee, own, built_in, filter_at, function_at}
 use Rattle.tera_objects.specs.Calling.{answer_of}

@@ -38,9 +38,9 @@ impl Function for Bold {
 
 /// A test that always holds.
 #[derive(Drop)]
-pub struct Holding;
+pub struct AlwaysPasses;
 
-impl Test for Holding {
+impl Test for AlwaysPasses {
     ghost meaning = { λ o v given view. Ok true };
 
     fn call(&self, _value: &Value, _kwargs: Kwargs, _state: &State<'_>) -> TeraResult<bool> {
@@ -50,9 +50,9 @@ impl Test for Holding {
 
 /// An escape that says that memory was refused.
 #[derive(Drop)]
-pub struct LacksMemory;
+pub struct RefusesMemory;
 
-impl EscapeFn for LacksMemory {
+impl EscapeFn for RefusesMemory {
     ghost escaped = { λ o input. input };
 
     fn escape(&self, _input: &str, _out: &mut String) -> TeraResult<()> {

@@ -6,22 +6,22 @@ use Rattle.tera_values.specs.Alphabet.{plain}
 use Rattle.tera_errors.specs.Site.{Name, Text}
 use Rattle.tera_values.specs.Named.{Named, at_name}
 use Rattle.tera_values.specs.Val.{Val}
-use Rattle.tera_built_ins.specs.declared.filter.BuiltInFilter.{BuiltInFilter}
-use Rattle.tera_built_ins.specs.declared.test.BuiltInTest.{BuiltInTest}
-use Rattle.tera_built_ins.specs.declared.function.BuiltInFunction.{BuiltInFunction}
+use Rattle.tera_built_ins.specs.declared.built_in_filter.BuiltInFilter.{BuiltInFilter}
+use Rattle.tera_built_ins.specs.declared.built_in_test.BuiltInTest.{BuiltInTest}
+use Rattle.tera_built_ins.specs.declared.built_in_function.BuiltInFunction.{BuiltInFunction}
 use Rattle.tera_built_ins.specs.Escaping.{escape_or_html}
 use Rattle.tera_state.specs.Scopes.{around_of, variables_of}
 use Rattle.tera_state.specs.View.{View, NamedFilters, view_at, filters_left}
 use Rattle.tera_objects.specs.Calling.{answer_of, all_bare, filter_called, test_called, function_called}
 use Rattle.tera_objects.specs.Called.{seen, filtered, tested, called}
-use Rattle.tera_objects.specs.declared.call.Call.{Call}
+use Rattle.tera_objects.specs.declared.object_call.ObjectCall.{ObjectCall}
 use Rattle.tera_objects.specs.Engine.{Engine, OwnFilter, OwnTest, OwnFunction, Callee, own, built_in, own_or_built_in, filter_at, test_at, function_at}
 use Rattle.tera_objects.specs.Kept.{Meanings, each, engine_of}
 use Rattle.tera_objects.specs.Stored.{callee_of, filter_answer, test_answer, function_answer, is_marked}
 use Rattle.tera_objects.specs.declared.stored.Stored.{Stored}
 use Rattle.tera_objects.specs.declared.stored.Stored.TheVariants.{BuiltIn, Own}
 use Rattle.tera_objects.specs.Table.{listed}
-use Rattle.tera_objects.specs.declared.over.ObjectsOver.{ObjectsOver}
+use Rattle.tera_objects.specs.declared.caller_objects.ObjectsOver.{ObjectsOver}
 use Rattle.tera_objects.proofs.Each.{at-each, is_some-map}
 use Rattle.tera_objects.proofs.Registered.{engine}
 use Rattle.tera_objects.proofs.Taken.{left}
@@ -82,7 +82,7 @@ module _ {A O B : Type 0} (meaning : A → O) (n : Name) (here : Named A) (b : O
       ∙ ap (λ (o : Option O). own_or_built_in o b) (ap (option_map meaning) absent ∙ sym (at-each meaning n here))
 
 -- what a call answers
-module _ {E F T G : Type 0} (escape : E → Text → Text) (filter : F → OwnFilter) (o : ObjectsOver E F T G) (call : Call) where
+module _ {E F T G : Type 0} (escape : E → Text → Text) (filter : F → OwnFilter) (o : ObjectsOver E F T G) (call : ObjectCall) where
   -- an engine whose escape and filters are those that are kept, which mean this
   abbrev engine_with : Named OwnTest → Named OwnFunction → Engine
   engine_with tests functions =

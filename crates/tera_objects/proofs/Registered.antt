@@ -6,7 +6,7 @@ use Rattle.tera_values.specs.Named.{Named, put}
 use Rattle.tera_objects.specs.Engine.{Engine, OwnFilter, OwnTest, OwnFunction}
 use Rattle.tera_objects.specs.Kept.{Meanings, Registers, each, engine_of}
 use Rattle.tera_objects.specs.Table.{moved}
-use Rattle.tera_objects.specs.declared.over.ObjectsOver.{ObjectsOver}
+use Rattle.tera_objects.specs.declared.caller_objects.ObjectsOver.{ObjectsOver}
 use Rattle.tera_objects.proofs.Each.{each-put, each-take, each-moved}
 
 -- what follows where something was done, or was refused

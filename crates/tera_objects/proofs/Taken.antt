@@ -7,7 +7,7 @@ use Rattle.std.specs.Cmp.Lexicographic.{bytes_decides}
 use Rattle.tera_errors.specs.Site.{Name}
 use Rattle.tera_values.specs.Named.{Named, at_name, put}
 use Rattle.tera_values.proofs.Named.{at_put}
-use Rattle.tera_built_ins.specs.declared.filter.BuiltInFilter.{BuiltInFilter}
+use Rattle.tera_built_ins.specs.declared.built_in_filter.BuiltInFilter.{BuiltInFilter}
 use Rattle.tera_built_ins.specs.Filters.{filter_named}
 use Rattle.tera_state.specs.View.{filters_left}
 use Rattle.tera_objects.specs.Engine.{built_in_unless}

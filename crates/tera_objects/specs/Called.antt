@@ -7,9 +7,9 @@ use Rattle.tera_state.specs.Scopes.{around_of, variables_of}
 use Rattle.tera_state.specs.View.{View}
 use Rattle.tera_objects.specs.Engine.{Engine}
 use Rattle.tera_objects.specs.Calling.{seen_in, filtered_by, tested_by, called_by}
-use Rattle.tera_objects.specs.declared.call.Call.{Call}
+use Rattle.tera_objects.specs.declared.object_call.ObjectCall.{ObjectCall}
 
-module _ (engine : Engine) (call : Call) where
+module _ (engine : Engine) (call : ObjectCall) where
   -- what an object of the caller sees where the call stands
   abbrev pub seen : View
   seen =

@@ -6,7 +6,7 @@ use Rattle.tera_values.specs.Named.{Named}
 use Rattle.tera_built_ins.specs.Escaping.{escape_or_html}
 use Rattle.tera_objects.specs.Engine.{Engine, OwnFilter, OwnTest, OwnFunction}
 use Rattle.tera_objects.specs.Table.{listed}
-use Rattle.tera_objects.specs.declared.over.ObjectsOver.{ObjectsOver}
+use Rattle.tera_objects.specs.declared.caller_objects.ObjectsOver.{ObjectsOver}
 
 -- what objects of the caller mean, of each kind
 pub record Meanings (E F T G : Type 0) : Type 0 where

@@ -4,9 +4,9 @@ use Rattle.tera_errors.specs.Fault.{Fault}
 use Rattle.tera_values.specs.Alphabet.{plain}
 use Rattle.tera_values.specs.Named.{Named}
 use Rattle.tera_values.specs.Val.{Val}
-use Rattle.tera_built_ins.specs.declared.filter.BuiltInFilter.{BuiltInFilter}
-use Rattle.tera_built_ins.specs.declared.test.BuiltInTest.{BuiltInTest}
-use Rattle.tera_built_ins.specs.declared.function.BuiltInFunction.{BuiltInFunction}
+use Rattle.tera_built_ins.specs.declared.built_in_filter.BuiltInFilter.{BuiltInFilter}
+use Rattle.tera_built_ins.specs.declared.built_in_test.BuiltInTest.{BuiltInTest}
+use Rattle.tera_built_ins.specs.declared.built_in_function.BuiltInFunction.{BuiltInFunction}
 use Rattle.tera_built_ins.specs.Filters.{filter_of}
 use Rattle.tera_built_ins.specs.TestTable.{test_of}
 use Rattle.tera_built_ins.specs.FunctionTable.{function_of}

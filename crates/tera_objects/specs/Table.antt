@@ -2,10 +2,10 @@
 use Rattle.std.specs.Prelude.{Bool, [], ◌∷◌, map, is_some, if◌then◌else◌, ◌||◌, string_bytes}
 use Rattle.tera_errors.specs.Site.{Name}
 use Rattle.tera_values.specs.Named.{Named, at_name, put}
-use Rattle.tera_objects.specs.declared.table.Table.{Table}
+use Rattle.tera_objects.specs.declared.table.ObjectTable.{ObjectTable}
 
 -- the names with what stands at them, in byte order
-abbrev pub listed : {X : Type 0} → Table X → Named X
+abbrev pub listed : {X : Type 0} → ObjectTable X → Named X
 listed t = map (λ e. (string_bytes e.0, e.1)) t.entries.entries
 
 -- where these names stand for something without it

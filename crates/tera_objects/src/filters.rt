@@ -2,11 +2,11 @@
 ghost use Rattle.std.specs.Prelude.{◌≡◌, ◌&&◌, not, ℕ, [], take, is_some, OnOk, OnErr, IfErr};
 ghost use Rattle.tera_errors.specs.Prelude.{Lacks};
 ghost use Rattle.tera_values.specs.Prelude.{at_name, put};
-ghost use Rattle.tera_objects.specs.Table.{listed, moved};
+ghost use Rattle.tera_objects.specs.ObjectTable.{listed, moved};
 ghost use Rattle.tera_objects.specs.Taken.{AreTaken, is_built_in};
 ghost use Rattle.std.proofs.Props.{props};
 
-use crate::table::{Standard, Table};
+use crate::table::{BuiltInKind, ObjectTable};
 use std::alloc::Global;
 use tera_built_ins::BuiltInFilter;
 use tera_values::{Name, TeraResult};
@@ -15,7 +15,7 @@ use tera_values::{Name, TeraResult};
 #[derive(Drop)]
 pub struct OwnFilters<F> {
     alloc: Global,
-    pub table: Table<F>,
+    pub table: ObjectTable<F>,
     pub taken: Vec<Name>,
     ghost are_taken: { AreTaken taken.items (listed table) } by { Prim.hlevel props },
 }
@@ -27,7 +27,7 @@ impl<F: Drop> OwnFilters<F> {
     {
         OwnFilters {
             alloc,
-            table: Table::new(alloc),
+            table: ObjectTable::new(alloc),
             taken: Vec::new(alloc),
         }
     }

@@ -1,21 +1,21 @@
 //! What an engine has of its caller: filters, tests, functions and the escape.
 #![tactic(auto)]
 
-mod boxes;
-pub mod call;
-mod calls;
+mod boxed_escape;
+pub mod object_call;
+mod caller_calls;
 pub mod filters;
 pub mod laws;
-mod marked;
+mod safe_answers;
 pub mod objects;
-pub mod over;
-mod standard;
+pub mod caller_objects;
+mod built_in_kinds;
 pub mod stored;
 pub mod table;
 
-pub use call::Call;
+pub use object_call::ObjectCall;
 pub use filters::OwnFilters;
 pub use objects::Objects;
-pub use over::{CallerObjects, ObjectsOver};
+pub use caller_objects::{CallerObjects, ObjectsOver};
 pub use stored::{Stored, StoredFilter, StoredFunction, StoredTest};
-pub use table::{Standard, Table};
+pub use table::{BuiltInKind, ObjectTable};

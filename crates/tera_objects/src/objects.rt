@@ -8,7 +8,7 @@ ghost use Rattle.tera_objects.specs.Engine.{Engine, has_filter, has_test, has_fu
 ghost use Rattle.tera_objects.specs.Called.{filtered, tested, called};
 ghost use Rattle.tera_objects.specs.BuiltIn.{escaping_by};
 
-use crate::call::Call;
+use crate::object_call::ObjectCall;
 use std::alloc::{AllocError, Global};
 use tera_built_ins::BuiltInFilter;
 use tera_errors::Guess;
@@ -67,15 +67,15 @@ pub trait Objects: Drop {
 
     /// What the filter of this name makes of the value, with its own faults; a `Message` where there is none. An object sees
     /// the scopes, and whether texts are escaped.
-    fn call_filter(&self, call: Call<'_>, value: &Value) -> TeraResult<Value>
+    fn call_filter(&self, call: ObjectCall<'_>, value: &Value) -> TeraResult<Value>
         ensures { Gives (λ v. v) result (filtered (engine self.now) call.entry value.now) };
 
     /// Whether the test of this name holds of the value.
-    fn call_test(&self, call: Call<'_>, value: &Value) -> TeraResult<bool>
+    fn call_test(&self, call: ObjectCall<'_>, value: &Value) -> TeraResult<bool>
         ensures { Gives (λ b. b) result (tested (engine self.now) call.entry value.now) };
 
     /// What the function of this name makes of the arguments.
-    fn call_function(&self, call: Call<'_>) -> TeraResult<Value>
+    fn call_function(&self, call: ObjectCall<'_>) -> TeraResult<Value>
         ensures { Gives (λ v. v) result (called (engine self.now) call.entry) };
 
     /// Tries the names of the caller's filters in the place of one that is not there.

@@ -33,7 +33,7 @@ impl<'a> Stored<'a, BuiltInFilter, Box<dyn Filter>> {
     {
         match self {
             Stored::BuiltIn(filter) => {
-                filter.call(state.alloc(), value, &kwargs.lent(), state.escaping())
+                filter.call(state.alloc(), value, &kwargs.as_arguments(), state.escaping())
             },
             Stored::Own(filter) => filter.call(value, kwargs, state),
         }
@@ -59,7 +59,7 @@ impl<'a> Stored<'a, BuiltInTest, Box<dyn Test>> {
             (view_of (λ e. escaped e.now) state.now) self.now value.now kwargs) }
     {
         match self {
-            Stored::BuiltIn(test) => test.call(state.alloc(), value, &kwargs.lent()),
+            Stored::BuiltIn(test) => test.call(state.alloc(), value, &kwargs.as_arguments()),
             Stored::Own(test) => test.call(value, kwargs, state),
         }
     }
@@ -73,7 +73,7 @@ impl<'a> Stored<'a, BuiltInFunction, Box<dyn Function>> {
             (view_of (λ e. escaped e.now) state.now) self.now kwargs) }
     {
         match self {
-            Stored::BuiltIn(function) => function.call(state.alloc(), &kwargs.lent()),
+            Stored::BuiltIn(function) => function.call(state.alloc(), &kwargs.as_arguments()),
             Stored::Own(function) => function.call(kwargs, state),
         }
     }

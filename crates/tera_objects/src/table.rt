@@ -9,7 +9,7 @@ use tera_errors::Guess;
 use tera_values::TeraResult;
 
 /// What every engine has of a kind.
-pub trait Standard: Drop {
+pub trait BuiltInKind: Drop {
     // Whether a name stands for one of them.
     ghost stands: { Name → Bool };
 
@@ -20,19 +20,19 @@ pub trait Standard: Drop {
 
 /// Things by name, in byte order of the names.
 #[derive(Drop)]
-pub struct Table<X> {
+pub struct ObjectTable<X> {
     alloc: Global,
     entries: BTreeMap<String, X>,
 }
 
-impl<X: Drop> Table<X> {
-    ghost use Rattle.tera_objects.specs.Table.{listed, moved};
+impl<X: Drop> ObjectTable<X> {
+    ghost use Rattle.tera_objects.specs.ObjectTable.{listed, moved};
 
     /// Without any. Takes no memory.
-    pub fn new(alloc: Global) -> Table<X>
+    pub fn new(alloc: Global) -> ObjectTable<X>
         ensures { listed result ≡ [] }
     {
-        Table {
+        ObjectTable {
             alloc,
             entries: BTreeMap::new(alloc),
         }
@@ -72,7 +72,7 @@ impl<X: Drop> Table<X> {
     }
 
     /// Whether the name stands for something here, or for one of those that every engine has.
-    pub fn stands_for<S: Standard>(&self, name: &str) -> bool
+    pub fn stands_for<S: BuiltInKind>(&self, name: &str) -> bool
         ensures { result ≡ (S.stands name.now || is_some (at_name name.now (listed self.now))) }
     {
         S::is_one(name) || self.contains(name)
@@ -80,14 +80,14 @@ impl<X: Drop> Table<X> {
 
     /// Moves the others here, in byte order of their names, but those whose names stand for something already. After want of
     /// memory those that were moved stay.
-    pub fn move_from<S: Standard>(&mut self, other: Table<X>) -> TeraResult<()>
+    pub fn move_from<S: BuiltInKind>(&mut self, other: ObjectTable<X>) -> TeraResult<()>
         ensures ok { OnOk result (listed self.new
             ≡ moved S.stands (listed self.old) (listed other)) }
         ensures part { OnErr result ((k : ℕ) × (listed self.new
             ≡ moved S.stands (listed self.old) (take k (listed other)))) }
         ensures lacks { IfErr result Lacks }
     {
-        let Table { alloc: _, entries } = other;
+        let ObjectTable { alloc: _, entries } = other;
         for (name, thing) in entries {
             if !self.stands_for::<S>(name.as_str()) {
                 self.entries.insert(name, thing)?;

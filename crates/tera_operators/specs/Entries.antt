@@ -9,8 +9,8 @@ use Rattle.tera_values.specs.Val.{Val, KeyVal, kbool, kint, ktext}
 use Rattle.tera_values.specs.Access.{find, key_eq}
 use Rattle.tera_operators.specs.Operand.{Evaluated}
 use Rattle.tera_operators.specs.Literals.{key_val, from_left}
-use Rattle.tera_operators.specs.declared.listed.Form.{Form}
-use Rattle.tera_operators.specs.declared.listed.Form.TheVariants as form
+use Rattle.tera_operators.specs.declared.map_entries.Form.{Form}
+use Rattle.tera_operators.specs.declared.map_entries.Form.TheVariants as form
 
 -- each operand at its key, where the later value of a key counts
 abbrev pub listed : List (Option OwnedKey) → List Evaluated → List (KeyVal × Val)

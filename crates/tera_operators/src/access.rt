@@ -4,7 +4,7 @@ ghost use Rattle.tera_errors.specs.Prelude.{Gives, Tells, rendering_error};
 ghost use Rattle.tera_values.specs.Prelude.{IsScalar};
 ghost use Rattle.tera_operators.specs.Accesses.{is_missing, part_of, Decides, attribute_of, item_of, bound_at, slice_of};
 
-use crate::faults::{fault_of, operand_or_fault, spanning};
+use crate::faults::{fault_of, operand_or_fault, span_of_both};
 use crate::operand::{LentOperand, Operand};
 use std::alloc::Global;
 use tera_values::{Error, Shape, Span, TeraResult, Value};
@@ -118,7 +118,7 @@ pub fn item(
         return Ok(Operand::new(Value::undefined(), span));
     }
     let answer = target.value().get_item(alloc, index.value());
-    operand_or_fault(alloc, file, answer, index.span(), spanning(target, index))
+    operand_or_fault(alloc, file, answer, index.span(), span_of_both(target, index))
 }
 
 #[inline(never)]

@@ -4,7 +4,7 @@ ghost use Rattle.tera_errors.specs.Prelude.{Fault, Gives};
 ghost use Rattle.tera_values.specs.Prelude.{Val, integers, on_integers, unless_zero};
 ghost use Rattle.tera_operators.specs.Operators.{number_at, numbers, divisor_of, combined, calculated, divided, negative_of};
 
-use crate::faults::{operand_or_fault, spanning};
+use crate::faults::{operand_or_fault, span_of_both};
 use crate::operand::Operand;
 use std::alloc::Global;
 use tera_values::{Error, TeraResult, Value, number};
@@ -64,29 +64,29 @@ fn words_of(error: &Error) -> &str {
 
 /// The operands of an operator, and the file that they stand in.
 #[derive(Clone, Copy)]
-pub(crate) struct Operands<'a> {
+pub(crate) struct OperandPair<'a> {
     pub file: &'a str,
     pub left: &'a Operand,
     pub right: &'a Operand,
 }
 
-impl<'a> Operands<'a> {
+impl<'a> OperandPair<'a> {
     /// The number, or the fault, at the combined span.
     #[inline(always)]
-    pub(crate) fn combined(self, alloc: Global, answer: TeraResult<Value>) -> TeraResult<Operand>
+    pub(crate) fn result_at_combined_span(self, alloc: Global, answer: TeraResult<Value>) -> TeraResult<Operand>
         ensures value { (meant : Result Val Fault) → Gives (λ v. v) answer meant →
             Gives (λ o. o) result (combined self.entry.file.now
             self.entry.left.now self.entry.right.now meant) }
         ensures ready { IsOk answer → IsOk result }
     {
-        let span = spanning(self.left, self.right);
+        let span = span_of_both(self.left, self.right);
         operand_or_fault(alloc, self.file, answer, span, span)
     }
 
     /// The same of a calculation with two numbers: an operand that is none is the fault before all else. Only where the number
     /// was refused are the operands looked at, since what gives a number was given two.
     #[inline(always)]
-    pub(crate) fn calculated(self, alloc: Global, answer: TeraResult<Value>) -> TeraResult<Operand>
+    pub(crate) fn calculation_result(self, alloc: Global, answer: TeraResult<Value>) -> TeraResult<Operand>
         ensures value { (f : ℤ → ℤ → Result Val Fault) →
             Gives (λ v. v) answer
             (on_integers f (integers self.entry.left.now.value self.entry.right.now.value)) →
@@ -97,12 +97,12 @@ impl<'a> Operands<'a> {
         if let Err(error) = &answer {
             numbers(alloc, self.file, self.left, self.right, words_of(error))?;
         }
-        self.combined(alloc, answer)
+        self.result_at_combined_span(alloc, answer)
     }
 
     /// The same of a division, at whose zero divisor the fault is at the right operand.
     #[inline(always)]
-    pub(crate) fn divided(self, alloc: Global, answer: TeraResult<Value>) -> TeraResult<Operand>
+    pub(crate) fn division_result(self, alloc: Global, answer: TeraResult<Value>) -> TeraResult<Operand>
         ensures value { (f : ℤ → ℤ → Result Val Fault) →
             let divide : Val → Val → Result Val Fault =
             λ v w. on_integers (λ a b. unless_zero b (f a b)) (integers v w) in
@@ -114,12 +114,12 @@ impl<'a> Operands<'a> {
         if let Err(error) = &answer {
             divisor(alloc, self.file, self.left, self.right, words_of(error))?;
         }
-        self.combined(alloc, answer)
+        self.result_at_combined_span(alloc, answer)
     }
 }
 
 /// `-operand`, at the operand's span, as its faults are.
-pub fn negative(alloc: Global, file: &str, operand: &Operand) -> TeraResult<Operand>
+pub fn negate(alloc: Global, file: &str, operand: &Operand) -> TeraResult<Operand>
     ensures value { Gives (λ o. o) result (negative_of file.now operand.now) }
     ensures ready { IsOk (negative_of file.now operand.now) → IsOk result }
 {

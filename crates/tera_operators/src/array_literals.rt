@@ -60,6 +60,6 @@ pub fn array(
             file,
             position,
         )),
-        None => Ok(Operand::new(Value::array(items).shared(alloc)?, span)),
+        None => Ok(Operand::new(Value::array(items).into_shared(alloc)?, span)),
     }
 }

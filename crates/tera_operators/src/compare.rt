@@ -58,10 +58,10 @@ impl<'v> LentOperand<'v> {
         match operator {
             BinaryOperator::Equal => Ok(truth(self.is_same(right), self, right)),
             BinaryOperator::NotEqual => Ok(truth(!self.is_same(right), self, right)),
-            BinaryOperator::Less => compared(alloc, file, self, right, Ordering::is_lt),
-            BinaryOperator::Greater => compared(alloc, file, self, right, Ordering::is_gt),
-            BinaryOperator::LessOrEqual => compared(alloc, file, self, right, Ordering::is_le),
-            BinaryOperator::GreaterOrEqual => compared(alloc, file, self, right, Ordering::is_ge),
+            BinaryOperator::Less => compare_by(alloc, file, self, right, Ordering::is_lt),
+            BinaryOperator::Greater => compare_by(alloc, file, self, right, Ordering::is_gt),
+            BinaryOperator::LessOrEqual => compare_by(alloc, file, self, right, Ordering::is_le),
+            BinaryOperator::GreaterOrEqual => compare_by(alloc, file, self, right, Ordering::is_ge),
             _ => unreachable!(),
         }
     }
@@ -98,7 +98,7 @@ impl<'v> LentOperand<'v> {
 
     // Neither operand stands before the other: both kinds are named.
     #[inline(never)]
-    fn incomparable(&self, alloc: Global, file: &str, right: &LentOperand<'_>) -> Error
+    fn incomparable_error(&self, alloc: Global, file: &str, right: &LentOperand<'_>) -> Error
         ensures { Tells result (rendering_error
             (record { file = file.now; span = spanning self.now right.now })) }
     {
@@ -120,13 +120,13 @@ impl<'v> LentOperand<'v> {
 
     // How the operand stands to the right one; a fault at the combined span where the two are not comparable.
     #[inline(always)]
-    fn standing(&self, alloc: Global, file: &str, right: &LentOperand<'_>) -> TeraResult<Ordering>
+    fn order_or_fault(&self, alloc: Global, file: &str, right: &LentOperand<'_>) -> TeraResult<Ordering>
         ensures value { Gives (λ o. o) result (standing_of file.now self.now right.now) }
         ensures ready { IsOk (standing_of file.now self.now right.now) → IsOk result }
     {
         match self.order(right) {
             Some(standing) => Ok(standing),
-            None => Err(self.incomparable(alloc, file, right)),
+            None => Err(self.incomparable_error(alloc, file, right)),
         }
     }
 }
@@ -155,7 +155,7 @@ fn order_of(left: &Value, right: &Value) -> Option<Ordering>
 
 /// Whether the test holds of how the left operand stands to the right one, at the combined span.
 #[inline(always)]
-fn compared<F: FnOnce(Ordering) -> bool>(
+fn compare_by<F: FnOnce(Ordering) -> bool>(
     alloc: Global,
     file: &str,
     left: &LentOperand<'_>,
@@ -168,6 +168,6 @@ fn compared<F: FnOnce(Ordering) -> bool>(
         Gives (λ o. o) result (compared file.now test left.now right.now) }
     ensures ready { IsOk (standing_of file.now left.now right.now) → IsOk result }
 {
-    let standing = left.standing(alloc, file, right)?;
+    let standing = left.order_or_fault(alloc, file, right)?;
     Ok(truth(holds(standing), left, right))
 }

@@ -10,7 +10,7 @@ use tera_values::{Error, ErrorKind, Span, TeraResult, Value};
 
 /// From the start of the left operand to the end of the right one.
 #[inline(always)]
-pub(crate) fn spanning(left: &Operand, right: &Operand) -> Span
+pub(crate) fn span_of_both(left: &Operand, right: &Operand) -> Span
     ensures { result ≡ spanning left.now right.now }
 {
     Span {

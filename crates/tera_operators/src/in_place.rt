@@ -6,7 +6,7 @@ ghost use Rattle.tera_errors.specs.declared.span.Span.{Span};
 ghost use Rattle.tera_values.specs.Prelude.{bool, int, sum, difference, product, quotient, remainder};
 ghost use Rattle.tera_operators.specs.Operators.{Makes, binary_of, is_comparison};
 
-use crate::faults::spanning;
+use crate::faults::span_of_both;
 use crate::operand::Operand;
 use tera_syntax_tree::BinaryOperator;
 use tera_values::{Shape, Value};
@@ -21,8 +21,8 @@ pub fn binary_in_place(operator: BinaryOperator, left: &mut Operand, right: &Ope
 {
     if let Shape::Int(a) = left.value().shape() {
         if let Shape::Int(b) = right.value().shape() {
-            if let Some(value) = made(operator, a, b) {
-                *left = Operand::new(value, spanning(left, right));
+            if let Some(value) = small_result(operator, a, b) {
+                *left = Operand::new(value, span_of_both(left, right));
                 return true;
             }
         }
@@ -33,7 +33,7 @@ pub fn binary_in_place(operator: BinaryOperator, left: &mut Operand, right: &Ope
 /// What the operator makes of two integers; none where that is a fault, or takes more than a few steps.
 #[inline(always)]
 #[tactic(auto, using(crate::proofs::InPlace::sum_is_made, crate::proofs::InPlace::difference_is_made, crate::proofs::InPlace::product_is_made, crate::proofs::InPlace::quotient_is_made, crate::proofs::InPlace::remainder_is_made, crate::proofs::InPlace::tells_less, crate::proofs::InPlace::tells_greater, crate::proofs::InPlace::tells_less_or_equal, crate::proofs::InPlace::tells_greater_or_equal))]
-fn made(operator: BinaryOperator, a: i128, b: i128) -> Option<Value>
+fn small_result(operator: BinaryOperator, a: i128, b: i128) -> Option<Value>
     ensures { IfSome result (Makes operator (int a) (int b)) }
 {
     match operator {
@@ -108,7 +108,7 @@ fn word_product(a: i64, b: i64) -> i128
 fn small_quotient(a: i128, b: i128) -> Option<Value>
     ensures { IfSome result (λ v. quotient a b ≡ Ok v) }
 {
-    let (a, b) = dividable(a, b)?;
+    let (a, b) = words_to_divide(a, b)?;
     Some(Value::from_int(a.div_euclid(b) as i128))
 }
 
@@ -117,13 +117,13 @@ fn small_quotient(a: i128, b: i128) -> Option<Value>
 fn small_remainder(a: i128, b: i128) -> Option<Value>
     ensures { IfSome result (λ v. remainder a b ≡ Ok v) }
 {
-    let (a, b) = dividable(a, b)?;
+    let (a, b) = words_to_divide(a, b)?;
     Some(Value::from_int(a.rem_euclid(b) as i128))
 }
 
 // Both numbers, where a machine word holds each and the second is positive.
 #[inline(always)]
-fn dividable(a: i128, b: i128) -> Option<(i64, i64)>
+fn words_to_divide(a: i128, b: i128) -> Option<(i64, i64)>
     ensures { IfSome result (λ words. (words.0 ≡ a) × (words.1 ≡ b) × (pos 0 <ℤ b)) }
 {
     match (i64::try_from(a), i64::try_from(b)) {

@@ -6,7 +6,7 @@ ghost use Rattle.tera_syntax_tree.specs.Prelude.{key_of, key_option};
 ghost use Rattle.tera_values.specs.Prelude.{key_view};
 ghost use Rattle.tera_operators.specs.Literals.{key_val, pairs_of, kept, entry_after, from_left, map_entries, map_of};
 
-use crate::listed::Entries;
+use crate::map_entries::Entries;
 use crate::operand::Operand;
 use std::alloc::Global;
 use tera_syntax_tree::OwnedKey;
@@ -78,7 +78,7 @@ fn keep_all(all: &mut Map, more: &Map) -> TeraResult<()>
 }
 
 /// The entries from left to right; a key that is there takes the later value.
-fn from_left(alloc: Global, keys: &[Option<OwnedKey>], operands: Vec<Operand>) -> TeraResult<Map>
+fn map_from_left(alloc: Global, keys: &[Option<OwnedKey>], operands: Vec<Operand>) -> TeraResult<Map>
     requires { length keys.now ≡ length operands.items }
     ensures { Gives (λ m. m) result
         (Ok (from_left [] (zip (map_list key_option keys.now) operands.items))) }
@@ -138,7 +138,7 @@ fn has_spread(keys: &[Option<OwnedKey>]) -> bool
 
 /// The map of all entries. Where one of them is spread they are put from right to left, and a key that is there keeps its value.
 #[tactic(auto, using(crate::proofs::Keeping::without_spread))]
-fn made(
+fn map_of_entries(
     alloc: Global,
     file: &str,
     keys: &[Option<OwnedKey>],
@@ -149,7 +149,7 @@ fn made(
         (map_entries file.now (zip (map_list key_option keys.now) operands.items)) }
 {
     if !has_spread(keys) {
-        return from_left(alloc, keys, operands);
+        return map_from_left(alloc, keys, operands);
     }
     let mut all = Map::new(alloc);
     let mut operands = operands;
@@ -172,7 +172,7 @@ pub fn entries<'k>(
         (map_entries file.now (zip (map_list key_option keys.now) operands.items)) }
 {
     if keys.len() > FEW || has_spread(keys) {
-        Ok(Entries::made(made(alloc, file, keys, operands)?))
+        Ok(Entries::of_owned_map(map_of_entries(alloc, file, keys, operands)?))
     } else {
         Ok(Entries::of_operands(keys, operands))
     }
@@ -192,6 +192,6 @@ pub fn map(
     ensures { Gives (λ o. o) result
         (map_of file.now (zip (map_list key_option keys.now) operands.items) span) }
 {
-    let all = made(alloc, file, keys, operands)?;
-    Ok(Operand::new(Value::map(all).shared(alloc)?, span))
+    let all = map_of_entries(alloc, file, keys, operands)?;
+    Ok(Operand::new(Value::map(all).into_shared(alloc)?, span))
 }

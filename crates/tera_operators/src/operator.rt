@@ -3,7 +3,7 @@ ghost use Rattle.std.specs.Prelude.{◌≢◌, IsOk};
 ghost use Rattle.tera_errors.specs.Prelude.{Gives};
 ghost use Rattle.tera_operators.specs.Operators.{binary_of};
 
-use crate::arithmetic::Operands;
+use crate::arithmetic::OperandPair;
 use crate::membership::is_in;
 use crate::operand::Operand;
 use crate::text::concatenate;
@@ -29,15 +29,15 @@ pub fn binary(
         IsOk (binary_of file.now operator left.now right.now span) → IsOk result }
 {
     let (a, b) = (left.value(), right.value());
-    let operands = Operands { file, left, right };
+    let operands = OperandPair { file, left, right };
     match operator {
-        BinaryOperator::Add => operands.combined(alloc, add(alloc, a, b)),
-        BinaryOperator::Subtract => operands.calculated(alloc, sub(alloc, a, b)),
-        BinaryOperator::Multiply => operands.calculated(alloc, mul(alloc, a, b)),
-        BinaryOperator::Power => operands.calculated(alloc, pow(alloc, a, b)),
-        BinaryOperator::Divide => operands.divided(alloc, div(alloc, a, b)),
-        BinaryOperator::FloorDivide => operands.divided(alloc, floor_div(alloc, a, b)),
-        BinaryOperator::Remainder => operands.divided(alloc, rem(alloc, a, b)),
+        BinaryOperator::Add => operands.result_at_combined_span(alloc, add(alloc, a, b)),
+        BinaryOperator::Subtract => operands.calculation_result(alloc, sub(alloc, a, b)),
+        BinaryOperator::Multiply => operands.calculation_result(alloc, mul(alloc, a, b)),
+        BinaryOperator::Power => operands.calculation_result(alloc, pow(alloc, a, b)),
+        BinaryOperator::Divide => operands.division_result(alloc, div(alloc, a, b)),
+        BinaryOperator::FloorDivide => operands.division_result(alloc, floor_div(alloc, a, b)),
+        BinaryOperator::Remainder => operands.division_result(alloc, rem(alloc, a, b)),
         BinaryOperator::Concat => concatenate(alloc, left, right),
         BinaryOperator::Equal
         | BinaryOperator::NotEqual

@@ -4,7 +4,7 @@ ghost use Rattle.tera_errors.specs.Prelude.{Gives};
 ghost use Rattle.tera_values.specs.Prelude.{text, printed};
 ghost use Rattle.tera_operators.specs.Operand.{at_span, spanning};
 
-use crate::faults::spanning;
+use crate::faults::span_of_both;
 use crate::operand::Operand;
 use std::alloc::Global;
 use tera_values::{Shape, TeraResult, Value};
@@ -15,16 +15,16 @@ pub(crate) fn concatenate(alloc: Global, left: &Operand, right: &Operand) -> Ter
         (text (printed left.now.value ++ printed right.now.value) false)
         (spanning left.now right.now)) }
 {
-    let value = joined(alloc, left.value(), right.value())?;
-    Ok(Operand::new(value, spanning(left, right)))
+    let value = join_values(alloc, left.value(), right.value())?;
+    Ok(Operand::new(value, span_of_both(left, right)))
 }
 
 // Two texts are copied once, into a buffer of the right size.
-fn joined(alloc: Global, left: &Value, right: &Value) -> TeraResult<Value>
+fn join_values(alloc: Global, left: &Value, right: &Value) -> TeraResult<Value>
     ensures { Gives (λ v. v) result (Ok (text (printed left.now ++ printed right.now) false)) }
 {
     match (left.shape(), right.shape()) {
-        (Shape::Text(left, _), Shape::Text(right, _)) => Value::joined(alloc, left, right, false),
+        (Shape::Text(left, _), Shape::Text(right, _)) => Value::join(alloc, left, right, false),
         _ => print_both(alloc, left, right),
     }
 }

@@ -12,7 +12,7 @@ use Rattle.tera_meaning.specs.Registry.{Registry, Entry}
 use Rattle.tera_meaning.specs.Resolve.{entry_at, parents}
 use Rattle.tera_meaning.specs.Lineage.{ancestors, definers_in}
 use Rattle.tera_meaning.specs.Accepted.{is_none_left, is_lost, loses_a_block}
-use Rattle.tera_registry.specs.declared.definers.At.{At}
+use Rattle.tera_registry.specs.declared.definers.BlockAt.{BlockAt}
 use Rattle.tera_registry.specs.declared.template.Template.{Template as Stored}
 use Rattle.tera_registry.specs.Kept.{entry_of}
 use Rattle.tera_registry.specs.Numbers.{first_of, from_standing, lineage, number_at}
@@ -80,11 +80,11 @@ lost-by r t block None f = ap is_none_left f
 lost-by r t block (Some n) f =
     ap is_none_left f.0 ∙ ap (λ o. is_none_left (from_standing r o)) (block-some r.templates n f.1).1
 
-pub lost-so : (r : Registry) (t : Entry) (block : Name) (o : Option At) → parents r t ≡ Ok (ancestors r t) → option_map (number_at r.templates) o ≡ first_of (lineage r block (ancestors r t)) → is_lost r t block ≡ is_none o
+pub lost-so : (r : Registry) (t : Entry) (block : Name) (o : Option BlockAt) → parents r t ≡ Ok (ancestors r t) → option_map (number_at r.templates) o ≡ first_of (lineage r block (ancestors r t)) → is_lost r t block ≡ is_none o
 lost-so r t block o ok is =
     lost-by r t block _ (are-from r block (ancestors r t) (parents-climb r t ok)) ∙ ap is_none (sym is) ∙ alike o
   where
-    alike : (o : Option At) → is_none (option_map (number_at r.templates) o) ≡ is_none o
+    alike : (o : Option BlockAt) → is_none (option_map (number_at r.templates) o) ≡ is_none o
     alike None = refl
     alike (Some at) = refl
 

@@ -18,8 +18,8 @@ use Rattle.tera_meaning.specs.Resolve.{parents}
 use Rattle.tera_meaning.specs.Adding.{unless_faulty, accepted}
 use Rattle.tera_registry.specs.declared.template.Template.{Template as Stored}
 use Rattle.std.specs.declared.collections.BTreeMap.{BTreeMap}
-use Rattle.tera_registry.specs.declared.choices.Choice.{Choice}
-use Rattle.tera_registry.specs.declared.lineage.Up.{Up}
+use Rattle.tera_registry.specs.declared.component_table.ComponentAt.{ComponentAt}
+use Rattle.tera_registry.specs.declared.roots.Parent.{Parent}
 use Rattle.tera_registry.specs.Choices.{chosen_in, chosen_from, AreChosen}
 use Rattle.tera_registry.specs.Batch.{ReadsBatch, Adds}
 use Rattle.tera_registry.specs.Put.{put_among, Puts}
@@ -52,7 +52,7 @@ first-same r before [] = refl
 first-same r before (t ∷ es) =
     ap₂ option_or (fault-of-one-same r before t) (first-same r (before ++ t ∷ []) es)
 
-pub chosen-same : (r : Registry) (n : Name) (position : ℕ) (ts : List Entry) (old : Option Choice) → chosen_from (bare r.templates r.prefixes) n position ts old ≡ chosen_from r n position ts old
+pub chosen-same : (r : Registry) (n : Name) (position : ℕ) (ts : List Entry) (old : Option ComponentAt) → chosen_from (bare r.templates r.prefixes) n position ts old ≡ chosen_from r n position ts old
 chosen-same r n position [] old = refl
 chosen-same r n position (t ∷ ts) old =
     chosen-same r n (suc position) ts (chosen_in n position (priority r t.0) 0 (component_names t.1.tree.definitions) old)
@@ -155,7 +155,7 @@ module _ (engine : Engine) (ts lent : List (Rc Stored Global)) (ps lent_ps : Lis
       let meant : accepted q ≡ Ok q = rw (e, f) at ok in
       sym (first-same q [] (entries_of ts)) ∙ no-first-fault q (faultless q meant)
 
-  pub kept-placed : (ups : List Up) → AreUps (seen_by engine lent lent_ps) ups (length (entries_of lent)) → ArePlaced (seen ts ps) ups
+  pub kept-placed : (ups : List Parent) → AreUps (seen_by engine lent lent_ps) ups (length (entries_of lent)) → ArePlaced (seen ts ps) ups
   kept-placed ups a =
       let meant : AreUps (seen_by engine ts ps) ups (length (entries_of ts)) = rw (e, f) at a in
       placed (seen ts ps) ups (record { as_many = meant.as_many; those = meant.those })
@@ -165,7 +165,7 @@ module _ (engine : Engine) (ts lent : List (Rc Stored Global)) (ps lent_ps : Lis
       let meant : AreRoots (seen_by engine ts ps) roots (length (entries_of ts)) = rw (e, f) at a in
       rooted (seen ts ps) roots (record { as_many = meant.as_many; those = meant.those })
 
-  pub kept-chosen : (choices : BTreeMap (String Global) Choice Global) → AreChosen (seen_by engine lent lent_ps) choices → AreChosen (seen ts ps) choices
+  pub kept-chosen : (choices : BTreeMap (String Global) ComponentAt Global) → AreChosen (seen_by engine lent lent_ps) choices → AreChosen (seen ts ps) choices
   kept-chosen choices a =
       let meant : AreChosen (seen_by engine ts ps) choices = rw (e, f) at a in
       λ n. meant n ∙ sym (chosen-same (seen_by engine ts ps) n 0 (entries_of ts) None)

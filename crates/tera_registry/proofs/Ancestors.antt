@@ -16,8 +16,8 @@ use Rattle.tera_code.specs.Blocks.{block_listings}
 use Rattle.tera_registry.specs.declared.code.TemplateBlock.{TemplateBlock}
 use Rattle.tera_registry.specs.Components.{kept_block}
 use Rattle.tera_registry.specs.declared.template.Template.{Template as Stored}
-use Rattle.tera_registry.specs.declared.lineage.Up.{Up}
-use Rattle.tera_registry.specs.declared.lineage.Up.TheVariants as which
+use Rattle.tera_registry.specs.declared.roots.Parent.{Parent}
+use Rattle.tera_registry.specs.declared.roots.Parent.TheVariants as which
 use Rattle.tera_registry.specs.Links.{IsUp, ArePlaced}
 use Rattle.tera_registry.specs.Order.{Rises}
 use Rattle.tera_registry.specs.Kept.{entries_of, seen}
@@ -136,22 +136,22 @@ length-kept bs file ns same = sym (length-map-of bs) ∙ ap length same ∙ leng
 
 -- What each template extends stands at its position.
 
-pub listed : (r : Registry) (ts : List (Rc Stored Global)) (ups : List Up) (i : ℕ) → Climbable r ts ups → i < length ts → i < length ups
+pub listed : (r : Registry) (ts : List (Rc Stored Global)) (ups : List Parent) (i : ℕ) → Climbable r ts ups → i < length ts → i < length ups
 listed r ts ups i c lt = omega (arith, c.above.as_many, ap length c.same, length-entries ts)
 
-pub among : (r : Registry) (ts : List (Rc Stored Global)) (ups : List Up) (i : ℕ) → Climbable r ts ups → i < length r.templates → i < length ts
+pub among : (r : Registry) (ts : List (Rc Stored Global)) (ups : List Parent) (i : ℕ) → Climbable r ts ups → i < length r.templates → i < length ts
 among r ts ups i c lt = omega (arith, ap length c.same, length-entries ts)
 
-pub up-at : (r : Registry) (ts : List (Rc Stored Global)) (ups : List Up) (i : ℕ) (u : Up) (t : Entry) → Climbable r ts ups → i < length ts → get_or ups i which.Nothing ≡ u → slice_get r.templates i ≡ Some t → IsUp r u t.1.tree.parent
+pub up-at : (r : Registry) (ts : List (Rc Stored Global)) (ups : List Parent) (i : ℕ) (u : Parent) (t : Entry) → Climbable r ts ups → i < length ts → get_or ups i which.None ≡ u → slice_get r.templates i ≡ Some t → IsUp r u t.1.tree.parent
 up-at r ts ups i u t c lt is at =
-    c.above.those i u t (slice_get-get_or ups i which.Nothing (listed r ts ups i c lt) ∙ ap Some is) at
+    c.above.those i u t (slice_get-get_or ups i which.None (listed r ts ups i c lt) ∙ ap Some is) at
 
-pub entry-there : (r : Registry) (ts : List (Rc Stored Global)) (ups : List Up) (i : ℕ) → Climbable r ts ups → i < length ts → (t : Entry) × (slice_get r.templates i ≡ Some t)
+pub entry-there : (r : Registry) (ts : List (Rc Stored Global)) (ups : List Parent) (i : ℕ) → Climbable r ts ups → i < length ts → (t : Entry) × (slice_get r.templates i ≡ Some t)
 entry-there r ts ups i c lt =
     element r.templates i (omega (arith, ap length c.same, length-entries ts))
 
 -- Templates that are accepted, where it is known what each extends.
-pub kept-climbable : (r : Registry) (ts lent_ts : List (Rc Stored Global)) (ps : List (String Global)) (ups lent_ups : List Up) → r ≡ seen ts ps → lent_ts ≡ ts → lent_ups ≡ ups → Rises (entries_of ts) → first_fault (seen ts ps) [] (entries_of ts) ≡ None → ArePlaced (seen ts ps) ups → Climbable r lent_ts lent_ups
+pub kept-climbable : (r : Registry) (ts lent_ts : List (Rc Stored Global)) (ps : List (String Global)) (ups lent_ups : List Parent) → r ≡ seen ts ps → lent_ts ≡ ts → lent_ups ≡ ups → Rises (entries_of ts) → first_fault (seen ts ps) [] (entries_of ts) ≡ None → ArePlaced (seen ts ps) ups → Climbable r lent_ts lent_ups
 kept-climbable r ts lent_ts ps ups lent_ups is e f rises none placed =
     let known = found-placed (seen ts ps) ups rises placed in
     rw (is, e, f) (record {

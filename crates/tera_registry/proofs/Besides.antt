@@ -15,7 +15,7 @@ use Rattle.tera_meaning.specs.Known.{lacks_a_callee}
 use Rattle.tera_meaning.specs.Components.{Component, component_named, component, one_off_name}
 use Rattle.tera_meaning.specs.Rendering.{is_component_beside}
 use Rattle.tera_registry.specs.declared.components.Component.{Component as Kept}
-use Rattle.tera_registry.specs.declared.choices.Choice.{Choice}
+use Rattle.tera_registry.specs.declared.component_table.ComponentAt.{ComponentAt}
 use Rattle.tera_registry.specs.Known.{is_there, code_lacks}
 use Rattle.tera_registry.specs.Components.{kept_of, kept_all, kept_names}
 use Rattle.tera_registry.specs.Choices.{chosen, chosen_of, AreChosen}
@@ -23,7 +23,7 @@ use Rattle.tera_registry.proofs.Definitions.{component-none, component-position}
 use Rattle.tera_registry.proofs.Choosing.{kept-names-are}
 use Rattle.tera_registry.proofs.Lacking.{codes_lack_as_tree}
 
-taken-there : (r : Registry) (n : Name) (c : Option Choice) → chosen_of r n ≡ c → is_some c ≡ is_some (component r n)
+taken-there : (r : Registry) (n : Name) (c : Option ComponentAt) → chosen_of r n ≡ c → is_some c ≡ is_some (component r n)
 taken-there r n None e = sym (ap is_some (component-none r n None (sym e) refl))
 taken-there r n (Some c) e = sym (ap is_some (component-position r n c e).is)
 
@@ -43,13 +43,13 @@ either-there : (a b : Option Component) → is_some (option_or a b) ≡ (is_some
 either-there None b = refl
 either-there (Some c) b = refl
 
-there-beside : (r : Registry) (tree : Tree) (file : Name) (choices : BTreeMap (String Global) Choice Global) (own : List Kept) → AreChosen r choices → map kept_of own ≡ kept_all file tree.definitions → (n : Name) → is_there choices own n ≡ is_component_beside r tree n
+there-beside : (r : Registry) (tree : Tree) (file : Name) (choices : BTreeMap (String Global) ComponentAt Global) (own : List Kept) → AreChosen r choices → map kept_of own ≡ kept_all file tree.definitions → (n : Name) → is_there choices own n ≡ is_component_beside r tree n
 there-beside r tree file choices own known kept n =
     let of_all : is_some (chosen choices n) ≡ is_some (component r n) = ap is_some (known n) ∙ taken-there r n (chosen_of r n) refl in
     let of_own = own-there n own ∙ ap (list_any (λ m. bytes_eq n m)) (kept-names-are file tree.definitions own kept) ∙ named-there one_off_name n tree.definitions in
     ap₂ (λ x y. x || y) of_all of_own ∙ sym (either-there (component r n) (component_named one_off_name n tree.definitions))
 
-pub beside-lacks : (r : Registry) (engine : Engine) (tree : Tree) (file : Name) (choices : BTreeMap (String Global) Choice Global) (own : List Kept) (body : Listing) → AreChosen r choices → r.engine ≡ engine → body.code ≡ nodes_code tree.nodes 0 → map kept_of own ≡ kept_all file tree.definitions → in_tree.blocks tree.nodes ≡ []
+pub beside-lacks : (r : Registry) (engine : Engine) (tree : Tree) (file : Name) (choices : BTreeMap (String Global) ComponentAt Global) (own : List Kept) (body : Listing) → AreChosen r choices → r.engine ≡ engine → body.code ≡ nodes_code tree.nodes 0 → map kept_of own ≡ kept_all file tree.definitions → in_tree.blocks tree.nodes ≡ []
     → (code_lacks engine (is_there choices own) body.code || list_any (λ c. code_lacks engine (is_there choices own) c.code.value.chunk.code) own) ≡ lacks_a_callee r.engine (is_component_beside r tree) tree
 beside-lacks r engine tree file choices own body known of code kept none =
     let there : is_there choices own ≡ is_component_beside r tree = fun_ext (there-beside r tree file choices own known kept) in

@@ -17,8 +17,8 @@ use Rattle.tera_syntax_tree.specs.Tree.{Nodes}
 use Rattle.tera_syntax_tree.specs.View.{node_of, nodes_of}
 use Rattle.tera_syntax_tree.specs.Includes.{includes, node_includes}
 use Rattle.tera_syntax_tree.specs.Blocks.{top_blocks, node_top_blocks}
-use Rattle.tera_registry.specs.declared.naming.Naming.{Naming}
-use Rattle.tera_registry.specs.declared.naming.Naming.TheVariants as naming
+use Rattle.tera_registry.specs.declared.node_names.Naming.{Naming}
+use Rattle.tera_registry.specs.declared.node_names.Naming.TheVariants as naming
 use Rattle.tera_registry.specs.Naming.{named, node_named}
 use Rattle.tera_syntax_tree.proofs.Views.{view_block, view_capture, view_component_call, view_for, view_if, view_section}
 

@@ -15,7 +15,7 @@ use Rattle.tera_syntax_tree.specs.Tree.{Definitions}
 use Rattle.tera_syntax_tree.specs.Definitions.{component_names}
 use Rattle.tera_meaning.specs.Registry.{Entry, Registry}
 use Rattle.tera_meaning.specs.Components.{priority, is_tie}
-use Rattle.tera_registry.specs.declared.choices.Choice.{Choice}
+use Rattle.tera_registry.specs.declared.component_table.ComponentAt.{ComponentAt}
 use Rattle.tera_registry.specs.Choices.{chosen, improves, better_choice, is_tied, chosen_in, chosen_from, ties_at}
 use Rattle.tera_registry.proofs.Rows.{drop-at, take-more}
 use Rattle.tera_registry.proofs.Chosen.{tie-of}
@@ -31,7 +31,7 @@ bytes_eq-flip a b =
     ]
 
 -- a better one is put at its name
-pub chose : (old new : BTreeMap (String Global) Choice Global) (key name : Name) (w : Choice) (q : Name) → key ≡ name → improves (chosen old name) w.priority ≡ true → chosen new q ≡ update bytes_eq (chosen old) key (Some w) q → chosen new q ≡ if bytes_eq q name then better_choice (chosen old q) w else chosen old q
+pub chose : (old new : BTreeMap (String Global) ComponentAt Global) (key name : Name) (w : ComponentAt) (q : Name) → key ≡ name → improves (chosen old name) w.priority ≡ true → chosen new q ≡ update bytes_eq (chosen old) key (Some w) q → chosen new q ≡ if bytes_eq q name then better_choice (chosen old q) w else chosen old q
 chose old new key name w q keyed is there =
     let put : chosen new q ≡ update bytes_eq (chosen old) name (Some w) q = rw (← keyed) there in
     elim (cases_Bool (bytes_eq q name)) [
@@ -44,7 +44,7 @@ chose old new key name w q keyed is there =
     ]
 
 -- one that is not better is left out
-pub left-out : (old : BTreeMap (String Global) Choice Global) (name : Name) (w : Choice) (q : Name) → improves (chosen old name) w.priority ≡ false → chosen old q ≡ if bytes_eq q name then better_choice (chosen old q) w else chosen old q
+pub left-out : (old : BTreeMap (String Global) ComponentAt Global) (name : Name) (w : ComponentAt) (q : Name) → improves (chosen old name) w.priority ≡ false → chosen old q ≡ if bytes_eq q name then better_choice (chosen old q) w else chosen old q
 left-out old name w q is =
     elim (cases_Bool (bytes_eq q name)) [
       | inl same ↦
@@ -55,18 +55,18 @@ left-out old name w q is =
     ]
 
 -- one name more
-pub chosen-more : (q n : Name) (position p k : ℕ) (names : List Name) (old : Option Choice) → slice_get names k ≡ Some n → chosen_in q position p k (drop k names) old ≡ chosen_in q position p (k + 1) (drop (k + 1) names) (if bytes_eq q n then better_choice old (record { template = position; component = k; priority = p }) else old)
+pub chosen-more : (q n : Name) (position p k : ℕ) (names : List Name) (old : Option ComponentAt) → slice_get names k ≡ Some n → chosen_in q position p k (drop k names) old ≡ chosen_in q position p (k + 1) (drop (k + 1) names) (if bytes_eq q n then better_choice old (record { template = position; component = k; priority = p }) else old)
 chosen-more q n position p k names old at =
     let next : suc k ≡ k + 1 = omega arith in
     let new = if bytes_eq q n then better_choice old (record { template = position; component = k; priority = p }) else old in
     ap (λ ns. chosen_in q position p k ns old) (drop-at names k n at) ∙ ap (λ i. chosen_in q position p i (drop (k + 1) names) new) next
 
 -- all names
-pub chosen-all-names : (q : Name) (position p k : ℕ) (names : List Name) (old : Option Choice) → length names ≤ k → chosen_in q position p k (drop k names) old ≡ old
+pub chosen-all-names : (q : Name) (position p k : ℕ) (names : List Name) (old : Option ComponentAt) → length names ≤ k → chosen_in q position p k (drop k names) old ≡ old
 chosen-all-names q position p k names old over = ap (λ ns. chosen_in q position p k ns old) (drop_all k names over)
 
 -- one template more
-pub chosen-push : (r : Registry) (q : Name) (position : ℕ) (ts : List Entry) (t : Entry) (old : Option Choice) → chosen_from r q position (ts ++ t ∷ []) old ≡ chosen_in q (position + length ts) (priority r t.0) 0 (component_names t.1.tree.definitions) (chosen_from r q position ts old)
+pub chosen-push : (r : Registry) (q : Name) (position : ℕ) (ts : List Entry) (t : Entry) (old : Option ComponentAt) → chosen_from r q position (ts ++ t ∷ []) old ≡ chosen_in q (position + length ts) (priority r t.0) 0 (component_names t.1.tree.definitions) (chosen_from r q position ts old)
 chosen-push r q position [] t old =
     let e : position ≡ position + 0 = omega arith in
     ap (λ i. chosen_in q i (priority r t.0) 0 (component_names t.1.tree.definitions) old) e
@@ -100,6 +100,6 @@ any-same f g [] same = refl
 any-same f g (n ∷ ns) same = ap (λ b. b || list_any f ns) (same n) ∙ ap (λ b. g n || b) (any-same f g ns same)
 
 -- a template that ties with what was taken before it
-pub ties-is : (r : Registry) (position : ℕ) (t : Entry) (cs : List Component) (taken : BTreeMap (String Global) Choice Global) (p : ℕ) → kept_names cs ≡ component_names t.1.tree.definitions → p ≡ priority r t.0 → ((q : Name) → chosen taken q ≡ chosen_from r q 0 (take position r.templates) None) → list_any (λ c. is_tied (chosen taken c.definition.name) p) cs ≡ ties_at r position t
+pub ties-is : (r : Registry) (position : ℕ) (t : Entry) (cs : List Component) (taken : BTreeMap (String Global) ComponentAt Global) (p : ℕ) → kept_names cs ≡ component_names t.1.tree.definitions → p ≡ priority r t.0 → ((q : Name) → chosen taken q ≡ chosen_from r q 0 (take position r.templates) None) → list_any (λ c. is_tied (chosen taken c.definition.name) p) cs ≡ ties_at r position t
 ties-is r position t cs taken p names good known =
     any-over (λ n. is_tied (chosen taken n) p) cs ∙ ap (list_any (λ n. is_tied (chosen taken n) p)) names ∙ any-same _ (is_tie r (take position r.templates) t) (component_names t.1.tree.definitions) (λ n. ap (λ o. is_tied o p) (known n) ∙ ap (is_tied (chosen_from r n 0 (take position r.templates) None)) good ∙ tie-of r n position t)

@@ -7,7 +7,7 @@ use Rattle.tera_syntax_tree.specs.Blocks.{is_among}
 use Rattle.tera_syntax_tree.specs.Definitions.{component_names}
 use Rattle.tera_meaning.specs.Registry.{Entry, Registry}
 use Rattle.tera_meaning.specs.Components.{component_named, component_in, priority, defines, better, best_from, is_better, definer_of, is_tie}
-use Rattle.tera_registry.specs.declared.choices.Choice.{Choice}
+use Rattle.tera_registry.specs.declared.component_table.ComponentAt.{ComponentAt}
 use Rattle.tera_registry.specs.Choices.{improves, better_choice, is_tied, chosen_in, chosen_from, chosen_of}
 use Rattle.tera_registry.proofs.Best.{ties_with, tie-best}
 
@@ -18,14 +18,14 @@ pub record IsComponent (n : Name) (t : Entry) (k : ℕ) : Type 0 where
   pub is : component_in n t ≡ Some (record { file = t.0; signature = definition.0; body = definition.1 })
 
 -- what is taken by position is the definition of this template
-pub record IsOf (r : Registry) (n : Name) (c : Choice) (o : Option Entry) : Type 0 where
+pub record IsOf (r : Registry) (n : Name) (c : ComponentAt) (o : Option Entry) : Type 0 where
   pub template : Entry
   pub taken : o ≡ Some template
   pub at : slice_get r.templates c.template ≡ Some template
   pub good : c.priority ≡ priority r template.0
   pub there : IsComponent n template c.component
 
-abbrev pub IsChosen : Registry → Name → Option Choice → Option Entry → Type 0
+abbrev pub IsChosen : Registry → Name → Option ComponentAt → Option Entry → Type 0
 IsChosen r n None o = o ≡ None
 IsChosen r n (Some c) o = IsOf r n c o
 
@@ -35,14 +35,14 @@ abbrev first_among : Name → List Name → Option ℕ
 first_among n [] = None
 first_among n (m ∷ ms) = if bytes_eq n m then Some 0 else option_map suc (first_among n ms)
 
-abbrev with_first : ℕ → ℕ → ℕ → Option ℕ → Option Choice → Option Choice
+abbrev with_first : ℕ → ℕ → ℕ → Option ℕ → Option ComponentAt → Option ComponentAt
 with_first position p k None old = old
 with_first position p k (Some j) old = better_choice old (record { template = position; component = k + j; priority = p })
 
 not_itself : (n : ℕ) → nat_lt n n ≡ false
 not_itself n = elim (cases_Bool (nat_lt n n)) [ inl less ↦ absurd (omega (arith, ltb-true n n less)) | inr e ↦ e ]
 
-better-settles : (old : Option Choice) (new : Choice) → improves (better_choice old new) new.priority ≡ false
+better-settles : (old : Option ComponentAt) (new : ComponentAt) → improves (better_choice old new) new.priority ≡ false
 better-settles None new = not_itself new.priority
 better-settles (Some old) new =
     elim (cases_Bool (nat_lt new.priority old.priority)) [
@@ -50,19 +50,19 @@ better-settles (Some old) new =
       | inr more ↦ ap (λ b. improves (if b then Some new else Some old) new.priority) more ∙ more
     ]
 
-settled-stays : (n : Name) (position p k : ℕ) (ms : List Name) (old : Option Choice) → improves old p ≡ false → chosen_in n position p k ms old ≡ old
+settled-stays : (n : Name) (position p k : ℕ) (ms : List Name) (old : Option ComponentAt) → improves old p ≡ false → chosen_in n position p k ms old ≡ old
 settled-stays n position p k [] old s = refl
 settled-stays n position p k (m ∷ ms) old s =
-    let new : Choice = record { template = position; component = k; priority = p } in
+    let new : ComponentAt = record { template = position; component = k; priority = p } in
     let left : better_choice old new ≡ old = ap (λ b. if b then Some new else old) s in
     let same : (if bytes_eq n m then better_choice old new else old) ≡ old = elim (bytes_eq n m) as (λ b. (if b then better_choice old new else old) ≡ old) [ true ↦ left | false ↦ refl ] in
     ap (chosen_in n position p (suc k) ms) same ∙ settled-stays n position p (suc k) ms old s
 
-chosen-first : (n : Name) (position p k : ℕ) (ms : List Name) (old : Option Choice) → chosen_in n position p k ms old ≡ with_first position p k (first_among n ms) old
+chosen-first : (n : Name) (position p k : ℕ) (ms : List Name) (old : Option ComponentAt) → chosen_in n position p k ms old ≡ with_first position p k (first_among n ms) old
 chosen-first n position p k [] old = refl
 chosen-first n position p k (m ∷ ms) old =
-    let new : Choice = record { template = position; component = k; priority = p } in
-    let at : ℕ → Choice = λ i. record { template = position; component = i; priority = p } in
+    let new : ComponentAt = record { template = position; component = k; priority = p } in
+    let at : ℕ → ComponentAt = λ i. record { template = position; component = i; priority = p } in
     elim (cases_Bool (bytes_eq n m)) [
       | inl same ↦
           (let zeroth : k ≡ k + 0 = omega arith in
@@ -97,17 +97,17 @@ first-of n file (d ∷ ds) = by_name (bytes_eq n d.0.name) refl (first_among n (
         (f.0, f.1, ap (λ b. if b then Some (record { file = file; signature = d.0; body = d.1 }) else component_named file n ds) e ∙ f.2, ap (λ b. b || is_among n (names_of ds)) e ∙ f.3)
 
 -- one template more
-chosen-step : (r : Registry) (n : Name) (position : ℕ) (t : Entry) (c : Option Choice) (o : Option Entry) → slice_get r.templates position ≡ Some t → IsChosen r n c o → IsChosen r n (chosen_in n position (priority r t.0) 0 (component_names t.1.tree.definitions) c) (if defines n t then better r o t else o)
+chosen-step : (r : Registry) (n : Name) (position : ℕ) (t : Entry) (c : Option ComponentAt) (o : Option Entry) → slice_get r.templates position ≡ Some t → IsChosen r n c o → IsChosen r n (chosen_in n position (priority r t.0) 0 (component_names t.1.tree.definitions) c) (if defines n t then better r o t else o)
 chosen-step r n position t c o at is =
     rw (chosen-first n position (priority r t.0) 0 (component_names t.1.tree.definitions) c) (by_first (first_among n (component_names t.1.tree.definitions)) (first-of n t.0 t.1.tree.definitions))
   where
-    made : (j : ℕ) → Choice
+    made : (j : ℕ) → ComponentAt
     made j = record { template = position; component = 0 + j; priority = priority r t.0 }
 
     new : (j : ℕ) → IsComponent n t j → IsOf r n (made j) (Some t)
     new j there = (let e : 0 + j ≡ j = omega arith in record { template = t; taken = refl; at = at; good = refl; there = rw e there })
 
-    taken : (j : ℕ) → IsComponent n t j → (old : Option Choice) → IsChosen r n old o → IsChosen r n (better_choice old (made j)) (better r o t)
+    taken : (j : ℕ) → IsComponent n t j → (old : Option ComponentAt) → IsChosen r n old o → IsChosen r n (better_choice old (made j)) (better r o t)
     taken j there None was = rw was (new j there)
     taken j there (Some old) was =
         let goods : nat_lt (priority r t.0) old.priority ≡ is_better r t was.template = ap (nat_lt (priority r t.0)) was.good in
@@ -127,7 +127,7 @@ chosen-step r n position t c o at is =
 abbrev pub Stretch : List Entry → ℕ → List Entry → Type 0
 Stretch all position ts = (k : ℕ) (t : Entry) → slice_get ts k ≡ Some t → slice_get all (position + k) ≡ Some t
 
-chosen-all : (r : Registry) (n : Name) (position : ℕ) (ts : List Entry) (c : Option Choice) (o : Option Entry) → Stretch r.templates position ts → IsChosen r n c o → IsChosen r n (chosen_from r n position ts c) (best_from r o (filter (defines n) ts))
+chosen-all : (r : Registry) (n : Name) (position : ℕ) (ts : List Entry) (c : Option ComponentAt) (o : Option Entry) → Stretch r.templates position ts → IsChosen r n c o → IsChosen r n (chosen_from r n position ts c) (best_from r o (filter (defines n) ts))
 chosen-all r n position [] c o all is = is
 chosen-all r n position (t ∷ ts) c o all is =
     let here : position + 0 ≡ position = omega arith in
@@ -156,7 +156,7 @@ chosen-is r n = chosen-all r n 0 r.templates None None (λ k t at. (let e : 0 + 
 
 -- Ties.
 
-tied-is : (r : Registry) (n : Name) (c : Option Choice) (o : Option Entry) (t : Entry) → IsChosen r n c o → is_tied c (priority r t.0) ≡ ties_with r o t
+tied-is : (r : Registry) (n : Name) (c : Option ComponentAt) (o : Option Entry) (t : Entry) → IsChosen r n c o → is_tied c (priority r t.0) ≡ ties_with r o t
 tied-is r n None o t is = rw is refl
 tied-is r n (Some c) o t is = rw is.taken (ap (λ p. nat_eq p (priority r t.0)) is.good)
 

@@ -6,7 +6,7 @@ use Rattle.tera_errors.specs.Fault.{Fault, circular_extend, missing_parent}
 use Rattle.tera_errors.specs.Site.{Name}
 use Rattle.tera_meaning.specs.Registry.{Registry, Entry}
 use Rattle.tera_meaning.specs.Resolve.{onto, or_missing, or_none, up, resolve, parents, last_of, root}
-use Rattle.tera_registry.specs.declared.lineage.Top.{Top}
+use Rattle.tera_registry.specs.declared.roots.Root.{Root}
 use Rattle.tera_registry.specs.Links.{IsChain, Stands, IsTop, IsFurther}
 
 -- What a chain says of the way up.
@@ -76,7 +76,7 @@ climb-again r t u steps zero n c none e = c.is ∙ ap (λ o. after_these c.passe
 climb-again r t u steps (suc left) n c none e = absurd (omega arith)
 
 -- the top of what is known further up is that of the template
-pub climb-meets : (r : Registry) (t u : Entry) (steps left most : ℕ) (top : Top) (result : Result Top SeenError) → Climbed r t u steps left → most ≡ length r.templates → steps + left ≡ most → Stands r u top → IsFurther top steps most result → IsTop r t result
+pub climb-meets : (r : Registry) (t u : Entry) (steps left most : ℕ) (top : Root) (result : Result Root SeenError) → Climbed r t u steps left → most ≡ length r.templates → steps + left ≡ most → Stands r u top → IsFurther top steps most result → IsTop r t result
 climb-meets r t u steps left most top (Ok far) c all sum s f = (
   omega (arith, f.2, all),
   record {
@@ -105,10 +105,10 @@ climb-ends r t u steps left i c le none at = (
 )
 
 -- what stands at the top of a template are its parents and its root
-pub top-parents : (r : Registry) (t : Entry) (top : Top) → IsTop r t (Ok top) → (ps : List Entry) × (parents r t ≡ Ok ps)
+pub top-parents : (r : Registry) (t : Entry) (top : Root) → IsTop r t (Ok top) → (ps : List Entry) × (parents r t ≡ Ok ps)
 top-parents r t top i = (i.1.above, chain-up r (length r.templates) t.1.tree.parent i.1.above i.1.chain (omega (arith, i.0, i.1.as_many)))
 
-pub top-root : (r : Registry) (t : Entry) (top : Top) → IsTop r t (Ok top) → slice_get r.templates top.root ≡ Some (root r t)
+pub top-root : (r : Registry) (t : Entry) (top : Root) → IsTop r t (Ok top) → slice_get r.templates top.root ≡ Some (root r t)
 top-root r t top i =
     let e = chain-up r (length r.templates) t.1.tree.parent i.1.above i.1.chain (omega (arith, i.0, i.1.as_many)) in
     i.1.root_at ∙ ap Some (sym (ap (λ o. last_of t (or_none o)) e))

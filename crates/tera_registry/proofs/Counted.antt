@@ -5,7 +5,7 @@ use Rattle.tera_errors.specs.Site.{Name}
 use Rattle.tera_meaning.specs.Lineage.{ancestors}
 use Rattle.tera_meaning.specs.Registry.{Entry, Registry}
 use Rattle.tera_meaning.specs.Resolve.{entry_at}
-use Rattle.tera_registry.specs.declared.definers.At.{At}
+use Rattle.tera_registry.specs.declared.definers.BlockAt.{BlockAt}
 use Rattle.tera_registry.specs.declared.templates.FoundTemplate.{FoundTemplate}
 use Rattle.tera_registry.specs.declared.templates.Templates.{Templates}
 use Rattle.tera_registry.specs.Bodies.{listings, start}
@@ -31,7 +31,7 @@ module _ (self : Templates) where
       slice_get_within (listings (templates_of self)) _ _ (own-listing (templates_of self) i t.0 t.1)
 
   -- the first of those who define a block has a body
-  pub first-within : (r : Registry) (block : Name) (from : ℕ) (at : At) → r ≡ registry_in self → from < length self.all.items → ((t : Entry) → slice_get r.templates from ≡ Some t → Some (number_at r.templates at) ≡ first_of (lineage r block (t ∷ ancestors r t))) → number_at (templates_of self) at < length (listings (templates_of self))
+  pub first-within : (r : Registry) (block : Name) (from : ℕ) (at : BlockAt) → r ≡ registry_in self → from < length self.all.items → ((t : Entry) → slice_get r.templates from ≡ Some t → Some (number_at r.templates at) ≡ first_of (lineage r block (t ∷ ancestors r t))) → number_at (templates_of self) at < length (listings (templates_of self))
   first-within r block from at same lt is =
       let t = there from lt in
       let t_at : slice_get r.templates from ≡ Some t.0 = ap (λ q. slice_get q.templates from) same ∙ t.1 in

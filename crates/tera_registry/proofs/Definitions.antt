@@ -13,11 +13,11 @@ use Rattle.tera_meaning.specs.Known.{lacks_a_callee}
 use Rattle.tera_meaning.specs.Accepted.{is_component}
 use Rattle.tera_meaning.specs.Components.{component_in, component, definer_of}
 use Rattle.tera_registry.specs.declared.components.Component.{Component as Kept}
-use Rattle.tera_registry.specs.declared.choices.Choice.{Choice}
-use Rattle.tera_registry.specs.declared.needs.Need.{Need}
+use Rattle.tera_registry.specs.declared.component_table.ComponentAt.{ComponentAt}
+use Rattle.tera_registry.specs.declared.outside_calls.OutsideCall.{OutsideCall}
 use Rattle.tera_registry.specs.Components.{kept_of, kept_as, kept_all}
 use Rattle.tera_registry.specs.Known.{is_there}
-use Rattle.tera_registry.specs.Needs.{needs_of, is_unmet}
+use Rattle.tera_registry.specs.OutsideCalls.{needs_of, is_missing_call}
 use Rattle.tera_registry.specs.Choices.{chosen, chosen_of, AreChosen}
 use Rattle.tera_registry.proofs.Needing.{or-false, lacks-needs}
 use Rattle.tera_registry.proofs.Chosen.{IsChosen, chosen-is}
@@ -25,24 +25,24 @@ use Rattle.tera_registry.proofs.Chosen.{IsChosen, chosen-is}
 pub component-there : (r : Registry) (n : Name) → is_some (chosen_of r n) ≡ is_component r n
 component-there r n = by_choice (chosen_of r n) (chosen-is r n)
   where
-    by_choice : (c : Option Choice) → IsChosen r n c (definer_of r n) → is_some c ≡ is_component r n
+    by_choice : (c : Option ComponentAt) → IsChosen r n c (definer_of r n) → is_some c ≡ is_component r n
     by_choice None is = sym (ap is_some is)
     by_choice (Some c) is = sym (ap is_some is.taken)
 
-pub component-none : (r : Registry) (n : Name) (c : Option Choice) → c ≡ chosen_of r n → c ≡ None → component r n ≡ None
+pub component-none : (r : Registry) (n : Name) (c : Option ComponentAt) → c ≡ chosen_of r n → c ≡ None → component r n ≡ None
 component-none r n c e none =
     let is : IsChosen r n None (definer_of r n) = rw (sym e ∙ none) at (chosen-is r n) in
     ap (option_and_then (component_in n)) is
 
 -- where the definition stands that is taken
-pub record ChosenAt (r : Registry) (n : Name) (c : Choice) : Type 0 where
+pub record ChosenAt (r : Registry) (n : Name) (c : ComponentAt) : Type 0 where
   pub template : Entry
   pub definition : Signature × Nodes
   pub template_at : slice_get r.templates c.template ≡ Some template
   pub at : slice_get template.1.tree.definitions c.component ≡ Some definition
   pub is : component r n ≡ Some (record { file = template.0; signature = definition.0; body = definition.1 })
 
-pub component-position : (r : Registry) (n : Name) (c : Choice) → chosen_of r n ≡ Some c → ChosenAt r n c
+pub component-position : (r : Registry) (n : Name) (c : ComponentAt) → chosen_of r n ≡ Some c → ChosenAt r n c
 component-position r n c e =
     let is : IsChosen r n (Some c) (definer_of r n) = rw e at (chosen-is r n) in
     record {
@@ -63,7 +63,7 @@ kept-at file definitions cs k d c e at is =
     cc
 
 -- what a template calls is there or not
-pub misses-callee : (r : Registry) (engine : Engine) (tree : Tree) (choices : BTreeMap (String Global) Choice Global) (needs : List Need) → AreChosen r choices → r.engine ≡ engine → needs ≡ needs_of tree → list_any (is_unmet engine (is_there choices [])) needs ≡ lacks_a_callee r.engine (is_component r) tree
+pub misses-callee : (r : Registry) (engine : Engine) (tree : Tree) (choices : BTreeMap (String Global) ComponentAt Global) (needs : List OutsideCall) → AreChosen r choices → r.engine ≡ engine → needs ≡ needs_of tree → list_any (is_missing_call engine (is_there choices [])) needs ≡ lacks_a_callee r.engine (is_component r) tree
 misses-callee r engine tree choices needs known of those =
     let there : is_there choices [] ≡ is_component r = fun_ext (λ n. sym (or-false (is_some (chosen choices n))) ∙ ap is_some (known n) ∙ component-there r n) in
-    ap (list_any (is_unmet engine (is_there choices []))) those ∙ sym (lacks-needs engine (is_there choices []) tree) ∙ ap₂ (λ e f. lacks_a_callee e f tree) (sym of) there
+    ap (list_any (is_missing_call engine (is_there choices []))) those ∙ sym (lacks-needs engine (is_there choices []) tree) ∙ ap₂ (λ e f. lacks_a_callee e f tree) (sym of) there

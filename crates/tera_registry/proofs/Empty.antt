@@ -7,9 +7,9 @@ use Rattle.std.specs.declared.collections.BTreeMap.{BTreeMap}
 use Rattle.std.specs.Map.{lookup}
 use Rattle.std.specs.Ordering.{is_eq}
 use Rattle.std.specs.Cmp.Lexicographic.{slice_cmp}
-use Rattle.tera_registry.specs.declared.choices.Choice.{Choice}
-use Rattle.tera_registry.specs.declared.lineage.Up.{Up}
-use Rattle.tera_registry.specs.declared.lineage.Up.TheVariants as up
+use Rattle.tera_registry.specs.declared.component_table.ComponentAt.{ComponentAt}
+use Rattle.tera_registry.specs.declared.roots.Parent.{Parent}
+use Rattle.tera_registry.specs.declared.roots.Parent.TheVariants as up
 use Rattle.tera_registry.specs.Choices.{chosen, AreChosen}
 use Rattle.tera_registry.specs.Order.{Rises}
 use Rattle.tera_registry.specs.Links.{ArePlaced}
@@ -33,14 +33,14 @@ none-rooted ts ps roots e f = rw (e, f) (record {
   those = λ i k t got. (let q : None ≡ Some k = got in cc);
 })
 
-pub none-placed : (ts : List (Rc Stored Global)) (ps : List (String Global)) (ups : List Up) → ts ≡ [] → ups ≡ [] → ArePlaced (seen ts ps) ups
+pub none-placed : (ts : List (Rc Stored Global)) (ps : List (String Global)) (ups : List Parent) → ts ≡ [] → ups ≡ [] → ArePlaced (seen ts ps) ups
 none-placed ts ps ups e f = rw (e, f) (record {
   as_many = refl;
   inside = λ i j got. (let q : None ≡ Some (up.At j) = got in cc);
   those = λ i u t got. (let q : None ≡ Some u = got in cc);
 })
 
-pub none-chosen : (ts : List (Rc Stored Global)) (ps : List (String Global)) (choices : BTreeMap (String Global) Choice Global) → ts ≡ [] → choices.entries ≡ [] → AreChosen (seen ts ps) choices
+pub none-chosen : (ts : List (Rc Stored Global)) (ps : List (String Global)) (choices : BTreeMap (String Global) ComponentAt Global) → ts ≡ [] → choices.entries ≡ [] → AreChosen (seen ts ps) choices
 none-chosen ts ps choices e f = λ q.
     let none : chosen choices q ≡ None = ap (lookup (λ k. is_eq (slice_cmp nat_cmp q (string_bytes k)))) f in
     rw e none

@@ -7,10 +7,10 @@ use Rattle.tera_code.specs.Targets.{Target, TemplateNamed, ComponentNamed}
 use Rattle.tera_meaning.specs.Registry.{Registry}
 use Rattle.tera_meaning.specs.Resolve.{resolve}
 use Rattle.tera_registry.specs.declared.body.Body.{Body}
-use Rattle.tera_registry.specs.declared.choices.Choice.{Choice}
+use Rattle.tera_registry.specs.declared.component_table.ComponentAt.{ComponentAt}
 use Rattle.tera_registry.specs.declared.code.Take.{Take}
-use Rattle.tera_registry.specs.declared.table.Link.{Link}
-use Rattle.tera_registry.specs.declared.table.Link.TheVariants as link
+use Rattle.tera_registry.specs.declared.body_table.Link.{Link}
+use Rattle.tera_registry.specs.declared.body_table.Link.TheVariants as link
 use Rattle.tera_registry.specs.Choices.{chosen, IsTaken}
 use Rattle.tera_registry.specs.HandedOut.{code_of, Takes, LeadsFrom, IsLink, Leading}
 use Rattle.tera_registry.specs.Order.{Rises}
@@ -71,7 +71,7 @@ module _ (b : Body) where
       let e : l ≡ q.0 = cc in
       rw e q.2)
 
-module _ (r : Registry) (choices : BTreeMap (String Global) Choice Global) where
+module _ (r : Registry) (choices : BTreeMap (String Global) ComponentAt Global) where
   -- what an include leads to
   pub include-leads : (at : ℕ) (name : Name) (l : Link) → LeadsTo r choices (take_of at (TemplateNamed name)) l → Rises r.templates → IsPosition r.templates (place_of l) (resolve r name)
   include-leads at name (link.Template position) leads rises = is-place r name position rises leads.1
@@ -91,6 +91,6 @@ module _ (r : Registry) (choices : BTreeMap (String Global) Choice Global) where
       omega (arith, s, lt))
   place-within t (link.Component taken) position leads e = absurd (let q : Some position ≡ None = e in cc)
 
-  pub choice-taken : (t : Take) (l : Link) (choice : Choice) → LeadsTo r choices t l → Some choice ≡ choice_of l → IsTaken choices choice
+  pub choice-taken : (t : Take) (l : Link) (choice : ComponentAt) → LeadsTo r choices t l → Some choice ≡ choice_of l → IsTaken choices choice
   choice-taken t (link.Template position) choice leads e = absurd (let q : Some choice ≡ None = e in cc)
   choice-taken t (link.Component taken) choice leads e = record { name = t.name; is = leads.1 ∙ sym e }

@@ -6,12 +6,12 @@ use Rattle.std.specs.List.{All}
 use Rattle.std.proofs.lemmas.List.Elements.{All-nil}
 use Rattle.std.proofs.lemmas.Option.{slice_get-map}
 use Rattle.tera_errors.specs.Site.{Name}
-use Rattle.tera_meaning.specs.Registry.{Registry, Entry}
+use Rattle.tera_meaning.specs.Registry.{Registry, LinkedBody}
 use Rattle.tera_meaning.specs.Resolve.{resolve}
-use Rattle.tera_registry.specs.declared.choices.Choice.{Choice}
+use Rattle.tera_registry.specs.declared.component_table.ComponentAt.{ComponentAt}
 use Rattle.tera_registry.specs.declared.code.Take.{Take}
-use Rattle.tera_registry.specs.declared.table.Entry.{Entry as Linked}
-use Rattle.tera_registry.specs.declared.table.Link.{Link}
+use Rattle.tera_registry.specs.declared.body_table.LinkedBody.{LinkedBody as Linked}
+use Rattle.tera_registry.specs.declared.body_table.Link.{Link}
 use Rattle.tera_registry.specs.declared.template.Template.{Template as Stored}
 use Rattle.tera_registry.specs.Bodies.{listings, AreStarts}
 use Rattle.tera_registry.specs.Kept.{entries_of, seen}
@@ -23,11 +23,11 @@ use Rattle.tera_registry.proofs.Rows.{length-push}
 
 module _ (r : Registry) (name : Name) where
   pub place-of : (found : Option ℕ) → IsPosition r.templates found (resolve r name) → IsPlace r name found
-  place-of None is = ap (option_map (λ (t : Entry). t.0)) is
+  place-of None is = ap (option_map (λ (t : LinkedBody). t.0)) is
   place-of (Some position) is =
-      (slice_get-map (λ (t : Entry). t.0) r.templates position ∙ ap (option_map (λ (t : Entry). t.0)) (sym is.0), is.1)
+      (slice_get-map (λ (t : LinkedBody). t.0) r.templates position ∙ ap (option_map (λ (t : LinkedBody). t.0)) (sym is.0), is.1)
 
-  nowhere : (o : Option Entry) → resolve r name ≡ o → option_map (λ (t : Entry). t.0) o ≡ None → resolve r name ≡ None
+  nowhere : (o : Option LinkedBody) → resolve r name ≡ o → option_map (λ (t : LinkedBody). t.0) o ≡ None → resolve r name ≡ None
   nowhere None e none = e
   nowhere (Some t) e none = (let q : Some t.0 ≡ None = none in cc)
 
@@ -37,17 +37,17 @@ module _ (r : Registry) (name : Name) where
       (at-its-position r position name (resolve r name) rises is.1 refl is.0, is.1)
 
 -- one link more
-pub no-links : (r : Registry) (choices : BTreeMap (String Global) Choice Global) (takes : List Take) → AreLinks r choices takes [] 0
+pub no-links : (r : Registry) (choices : BTreeMap (String Global) ComponentAt Global) (takes : List Take) → AreLinks r choices takes [] 0
 no-links r choices takes = record { as_many = refl; those = λ i l t got. (let q : None ≡ Some l = got in cc) }
 
-pub more-links : (r : Registry) (choices : BTreeMap (String Global) Choice Global) (takes : List Take) (links : List Link) (l : Link) (many : ℕ) (t : Take) → AreLinks r choices takes links many → slice_get takes many ≡ Some t → LeadsTo r choices t l → AreLinks r choices takes (links ++ l ∷ []) (many + 1)
+pub more-links : (r : Registry) (choices : BTreeMap (String Global) ComponentAt Global) (takes : List Take) (links : List Link) (l : Link) (many : ℕ) (t : Take) → AreLinks r choices takes links many → slice_get takes many ≡ Some t → LeadsTo r choices t l → AreLinks r choices takes (links ++ l ∷ []) (many + 1)
 more-links r choices takes links l many t a at is = record {
   as_many = length-push links l ∙ ap (λ n. n + 1) a.as_many;
   those = more (λ l t. LeadsTo r choices t l) takes links l many t a.as_many a.those at is;
 }
 
 -- no body
-pub none-right : (ts : List (Rc Stored Global)) (ps : List (String Global)) (choices : BTreeMap (String Global) Choice Global) (entries : List Linked) → entries ≡ [] → All (IsLinked (seen ts ps) choices) entries
+pub none-right : (ts : List (Rc Stored Global)) (ps : List (String Global)) (choices : BTreeMap (String Global) ComponentAt Global) (entries : List Linked) → entries ≡ [] → All (IsLinked (seen ts ps) choices) entries
 none-right ts ps choices entries e =
     subst (All (IsLinked (seen ts ps) choices)) (sym e) (All-nil (IsLinked (seen ts ps) choices))
 
@@ -61,7 +61,7 @@ none-starting ts starts e f = rw (e, f) (record {
 })
 
 -- links among templates that are lent
-pub kept-right : (ts lent : List (Rc Stored Global)) (ps lent_ps : List (String Global)) (choices : BTreeMap (String Global) Choice Global) (entries : List Linked) → lent ≡ ts → lent_ps ≡ ps → All (IsLinked (seen lent lent_ps) choices) entries → All (IsLinked (seen ts ps) choices) entries
+pub kept-right : (ts lent : List (Rc Stored Global)) (ps lent_ps : List (String Global)) (choices : BTreeMap (String Global) ComponentAt Global) (entries : List Linked) → lent ≡ ts → lent_ps ≡ ps → All (IsLinked (seen lent lent_ps) choices) entries → All (IsLinked (seen ts ps) choices) entries
 kept-right ts lent ps lent_ps choices entries e f a = rw (e, f) at a
 
 pub kept-whole : (ts lent : List (Rc Stored Global)) (entries : List Linked) → lent ≡ ts → map chunk_of entries ≡ listings (entries_of lent) → map chunk_of entries ≡ listings (entries_of ts)

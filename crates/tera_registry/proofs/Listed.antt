@@ -21,7 +21,7 @@ use Rattle.tera_code.specs.Listing.{Listing}
 use Rattle.tera_components.specs.Definition.{Definition}
 use Rattle.tera_meaning.specs.Registry.{Entry, Registry}
 use Rattle.tera_meaning.specs.Components.{component, AreComponentNames}
-use Rattle.tera_registry.specs.declared.choices.Choice.{Choice}
+use Rattle.tera_registry.specs.declared.component_table.ComponentAt.{ComponentAt}
 use Rattle.tera_registry.specs.declared.components.Component.{Component as Kept}
 use Rattle.tera_registry.specs.declared.template.Template.{Template as Stored}
 use Rattle.tera_registry.specs.declared.templates.Defined.{Defined}
@@ -41,23 +41,23 @@ use Rattle.tera_registry.proofs.Definitions.{component-there, component-position
 
 -- Templates and prefixes alone decide on what is taken.
 
-pub chosen-in-all : (r : Registry) (choices : BTreeMap (String Global) Choice Global) → AreChosen (bare r.templates r.prefixes) choices → AreChosen r choices
+pub chosen-in-all : (r : Registry) (choices : BTreeMap (String Global) ComponentAt Global) → AreChosen (bare r.templates r.prefixes) choices → AreChosen r choices
 chosen-in-all r choices known = λ n. known n ∙ chosen-same r n 0 r.templates None
 
 -- What is taken of a name stands at its position.
 
-taken-within : (r : Registry) (ts : List (Rc Stored Global)) (n : Name) (c : Choice) → r.templates ≡ entries_of ts → chosen_of r n ≡ Some c → c.template < length ts
+taken-within : (r : Registry) (ts : List (Rc Stored Global)) (n : Name) (c : ComponentAt) → r.templates ≡ entries_of ts → chosen_of r n ≡ Some c → c.template < length ts
 taken-within r ts n c same e =
     let p = component-position r n c e in
     omega (arith, slice_get_within r.templates c.template p.template p.template_at, ap length same, length-entries ts)
 
 -- a definition of this name in the template that is kept
-pub record Taken (r : Registry) (n : Name) (c : Choice) (u : Stored) : Type 0 where
+pub record Taken (r : Registry) (n : Name) (c : ComponentAt) (u : Stored) : Type 0 where
   pub definition : Signature × Nodes
   pub at : slice_get (definitions_of u.meant.definitions) c.component ≡ Some definition
   pub is : component r n ≡ Some (record { file = string_bytes u.name; signature = definition.0; body = definition.1 })
 
-taken-in : (r : Registry) (ts : List (Rc Stored Global)) (n : Name) (c : Choice) (u : Rc Stored Global) → r.templates ≡ entries_of ts → chosen_of r n ≡ Some c → u ≡ get_or ts c.template u → Taken r n c u.value
+taken-in : (r : Registry) (ts : List (Rc Stored Global)) (n : Name) (c : ComponentAt) (u : Rc Stored Global) → r.templates ≡ entries_of ts → chosen_of r n ≡ Some c → u ≡ get_or ts c.template u → Taken r n c u.value
 taken-in r ts n c u same e is =
     let p = component-position r n c e in
     let at = entry-at-position ts c.template u (taken-within r ts n c same e) is in
@@ -68,11 +68,11 @@ taken-in r ts n c u same e is =
       is = p.is ∙ ap (λ (t : Entry). Some (record { file = t.0; signature = p.definition.0; body = p.definition.1 })) kept;
     }
 
-taken-component-within : (r : Registry) (n : Name) (c : Choice) (u : Stored) → Taken r n c u → c.component < length u.components.items
+taken-component-within : (r : Registry) (n : Name) (c : ComponentAt) (u : Stored) → Taken r n c u → c.component < length u.components.items
 taken-component-within r n c u t =
     kept-within (string_bytes u.name) (definitions_of u.meant.definitions) u.components.items c.component t.definition u.defined t.at
 
-taken-defined : (r : Registry) (n : Name) (c : Choice) (u : Stored) (k : Kept) (found : Defined) (t : Taken r n c u) → k ≡ get_or u.components.items c.component k → found.definition.now ≡ k.definition → code_of found.body ≡ listing_of (string_bytes u.name) t.definition.1 → IsDefined (component r n) (Some found)
+taken-defined : (r : Registry) (n : Name) (c : ComponentAt) (u : Stored) (k : Kept) (found : Defined) (t : Taken r n c u) → k ≡ get_or u.components.items c.component k → found.definition.now ≡ k.definition → code_of found.body ≡ listing_of (string_bytes u.name) t.definition.1 → IsDefined (component r n) (Some found)
 taken-defined r n c u k found t is given code =
     let kept = kept-at (string_bytes u.name) (definitions_of u.meant.definitions) u.components.items c.component t.definition k u.defined t.at is in
     rw t.is (record { given = given ∙ ap (λ (p : Definition × Listing). p.0) kept; code = code })
@@ -87,7 +87,7 @@ component-number ts i k u d lt is at =
     ap (slice_get (listings es)) n ∙ component-listing-at t es i k d (entry-at-position ts i u lt is) at
 
 -- the same where templates are linked
-module _ (self : Templates) (choice : Choice) (taken : IsTaken self.choices choice) where
+module _ (self : Templates) (choice : ComponentAt) (taken : IsTaken self.choices choice) where
   chosen-so : chosen_of (registry_in self) taken.name ≡ Some choice
   chosen-so = sym (self.chosen taken.name) ∙ taken.is
 
@@ -128,7 +128,7 @@ keys-ascend (k ∷ ks) h = (below ks h.0, keys-ascend ks h.1)
     below [] h = tt
     below (j ∷ js) h = (h.0, below js h.1)
 
-among-keys : (n : Name) (es : List (String Global × Choice)) → is_among n (map string_bytes (keys_of es)) ≡ is_some (lookup (λ k. is_eq (slice_cmp nat_cmp n (string_bytes k))) es)
+among-keys : (n : Name) (es : List (String Global × ComponentAt)) → is_among n (map string_bytes (keys_of es)) ≡ is_some (lookup (λ k. is_eq (slice_cmp nat_cmp n (string_bytes k))) es)
 among-keys n [] = refl
 among-keys n (e ∷ es) =
     by_name (is_eq (slice_cmp nat_cmp n (string_bytes e.0))) (bytes_eq n (string_bytes e.0)) (is_eq-slice_cmp n (string_bytes e.0)) (among-keys n es)
@@ -139,7 +139,7 @@ among-keys n (e ∷ es) =
     by_name false true e rest = (let q : false ≡ true = e in cc)
     by_name false false e rest = rest
 
-pub names-of-all : (r : Registry) (choices : BTreeMap (String Global) Choice Global) → AreChosen r choices → IsOrdered string_cmp choices → AreComponentNames r (map string_bytes (keys choices))
+pub names-of-all : (r : Registry) (choices : BTreeMap (String Global) ComponentAt Global) → AreChosen r choices → IsOrdered string_cmp choices → AreComponentNames r (map string_bytes (keys choices))
 names-of-all r choices known ordered = record {
   ascending = keys-ascend (keys choices) ordered;
   those = λ n. among-keys n choices.entries ∙ ap is_some (known n) ∙ component-there r n;

@@ -22,9 +22,9 @@ use Rattle.tera_objects.specs.Engine.{Engine, own_or_built_in}
 use Rattle.tera_meaning.specs.Known.{is_known, has_unknown, lacks_a_callee, bodies}
 use Rattle.tera_registry.specs.declared.code.TemplateBlock.{TemplateBlock}
 use Rattle.tera_registry.specs.declared.components.Component.{Component}
-use Rattle.tera_registry.specs.declared.needs.Need.{Need}
+use Rattle.tera_registry.specs.declared.outside_calls.OutsideCall.{OutsideCall}
 use Rattle.tera_registry.specs.Components.{kept_block, kept_of, kept_as, kept_all}
-use Rattle.tera_registry.specs.Needs.{is_built_in, as_need, callee_needed, need_of, nodes_need, needs_of, is_unmet, needed_by, code_needs, bodies_need}
+use Rattle.tera_registry.specs.OutsideCalls.{is_built_in, as_need, callee_needed, need_of, nodes_need, needs_of, is_missing_call, needed_by, code_needs, bodies_need}
 use Rattle.tera_registry.proofs.Element.{element}
 use Rattle.tera_registry.proofs.Rows.{drop-at}
 
@@ -36,16 +36,16 @@ needs-split code k lt =
     let at : option_and_then needed_by (slice_get code k) ≡ needed_by i.0 = ap (option_and_then needed_by) i.1 in
     ap code_needs (drop-at code k i.0 i.1) ∙ joined (needed_by i.0) (code_needs (drop (k + 1) code)) ∙ ap (λ o. cons_option o [] ++ code_needs (drop (k + 1) code)) (sym at)
   where
-    joined : (o : Option Need) (rest : List Need) → cons_option o rest ≡ cons_option o [] ++ rest
+    joined : (o : Option OutsideCall) (rest : List OutsideCall) → cons_option o rest ≡ cons_option o [] ++ rest
     joined None rest = refl
     joined (Some n) rest = refl
 
-pub needs-on : (code : Code) (k : ℕ) (whole old new : List Need) → k < length code → new ≡ old ++ cons_option (option_and_then needed_by (slice_get code k)) [] → old ++ code_needs (drop k code) ≡ whole → new ++ code_needs (drop (k + 1) code) ≡ whole
+pub needs-on : (code : Code) (k : ℕ) (whole old new : List OutsideCall) → k < length code → new ≡ old ++ cons_option (option_and_then needed_by (slice_get code k)) [] → old ++ code_needs (drop k code) ≡ whole → new ++ code_needs (drop (k + 1) code) ≡ whole
 needs-on code k whole old new lt e h =
     let rest = code_needs (drop (k + 1) code) in
     ap (λ l. l ++ rest) e ∙ append_assoc old (cons_option (option_and_then needed_by (slice_get code k)) []) rest ∙ ap (λ l. old ++ l) (sym (needs-split code k lt)) ∙ h
 
-pub needs-end : (code : Code) (k : ℕ) (old whole : List Need) → length code ≤ k → old ++ code_needs (drop k code) ≡ whole → old ≡ whole
+pub needs-end : (code : Code) (k : ℕ) (old whole : List OutsideCall) → length code ≤ k → old ++ code_needs (drop k code) ≡ whole → old ≡ whole
 needs-end code k old whole over h =
     sym (append-nil old) ∙ sym (ap (λ c. old ++ code_needs c) (drop_all k code over)) ∙ h
 
@@ -86,7 +86,7 @@ kept-need file definitions = all definitions
     all [] = refl
     all (d ∷ ds) = ap₂ (λ x y. x ++ y) (code-needs-as-nodes (nodes_code d.1 0) d.1 refl) (all ds)
 
-flat-append : {X : Type 0} (f : X → List Need) (xs ys : List X) → flat_map f (xs ++ ys) ≡ flat_map f xs ++ flat_map f ys
+flat-append : {X : Type 0} (f : X → List OutsideCall) (xs ys : List X) → flat_map f (xs ++ ys) ≡ flat_map f xs ++ flat_map f ys
 flat-append f [] ys = refl
 flat-append f (x ∷ xs) ys = ap (λ l. f x ++ l) (flat-append f xs ys) ∙ sym (append_assoc (f x) (flat_map f xs) (flat_map f ys))
 
@@ -114,8 +114,8 @@ module _ (engine : Engine) (there : Name → Bool) where
   abbrev unknown : Callee → Bool
   unknown c = not (is_known engine there c)
 
-  abbrev unmet : Need → Bool
-  unmet = is_unmet engine there
+  abbrev unmet : OutsideCall → Bool
+  unmet = is_missing_call engine there
 
   built-in-known : (c : Callee) → is_built_in c ≡ true → is_known engine there c ≡ true
   built-in-known (AFilter n) e = either-there (at_name n engine.filters) (filter_named n) e
@@ -137,7 +137,7 @@ module _ (engine : Engine) (there : Name → Bool) where
   callees-unmet [] = refl
   callees-unmet (c ∷ cs) = ap₂ (λ x y. x || y) (callee-unmet c (is_built_in c) refl) (callees-unmet cs) ∙ joined (need_of c)
     where
-      joined : (o : Option Need) → (list_any unmet (cons_option o []) || list_any unmet (filter_map need_of cs)) ≡ list_any unmet (cons_option o (filter_map need_of cs))
+      joined : (o : Option OutsideCall) → (list_any unmet (cons_option o []) || list_any unmet (filter_map need_of cs)) ≡ list_any unmet (cons_option o (filter_map need_of cs))
       joined None = refl
       joined (Some n) = ap (λ b. b || list_any unmet (filter_map need_of cs)) (sym (or-false (unmet n)))
 

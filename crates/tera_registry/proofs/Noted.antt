@@ -3,7 +3,7 @@ use Rattle.std.proofs.Common.{◌≡◌, ℕ, zero, suc, List, [], ◌∷◌, le
 use Rattle.tera_errors.specs.Site.{Name}
 use Rattle.tera_meaning.specs.Registry.{Registry, Entry}
 use Rattle.tera_meaning.specs.Resolve.{resolve, last_of}
-use Rattle.tera_registry.specs.declared.lineage.Top.{Top}
+use Rattle.tera_registry.specs.declared.roots.Root.{Root}
 use Rattle.tera_registry.specs.Links.{IsChain, Stands, AreTops}
 
 get-set : {X : Type 0} (xs : List X) (i : ℕ) (x y : X) (j : ℕ) → slice_get (set xs i x) j ≡ Some y → ((j ≡ i) × (y ≡ x)) ⊎ (slice_get xs j ≡ Some y)
@@ -17,7 +17,7 @@ get-set (z ∷ xs) (suc i) x y (suc j) e =
       | inr before ↦ inr before
     ]
 
-pub noted : (r : Registry) (tops : List (Option Top)) (last : ℕ) (top : Top) (u : Entry) → AreTops r tops → slice_get r.templates last ≡ Some u → Stands r u top → AreTops r (set tops last (Some top))
+pub noted : (r : Registry) (tops : List (Option Root)) (last : ℕ) (top : Root) (u : Entry) → AreTops r tops → slice_get r.templates last ≡ Some u → Stands r u top → AreTops r (set tops last (Some top))
 noted r tops last top u a at s = record {
   those = λ i other v got v_at.
       elim (get-set tops last (Some top) (Some other) i got) [
@@ -47,11 +47,11 @@ length-set (y ∷ xs) (suc i) x = ap suc (length-set xs i x)
 
 -- nothing is known yet
 
-pub only-none : (P : Option Top → Type 0) → ((t : Top) → P (Some t) → ⊥) → (o : Option Top) → P o → o ≡ None
+pub only-none : (P : Option Root → Type 0) → ((t : Root) → P (Some t) → ⊥) → (o : Option Root) → P o → o ≡ None
 only-none P never None p = refl
 only-none P never (Some t) p = absurd (never t p)
 
-none-known : (n i : ℕ) (top : Top) → slice_get (replicate n None) i ≡ Some (Some top) → ⊥
+none-known : (n i : ℕ) (top : Root) → slice_get (replicate n None) i ≡ Some (Some top) → ⊥
 none-known zero i top e = (let q : None ≡ Some (Some top) = e in cc)
 none-known (suc n) zero top e = (let q : Some None ≡ Some (Some top) = e in cc)
 none-known (suc n) (suc i) top e = none-known n i top e

@@ -5,8 +5,8 @@ use Rattle.std.specs.declared.collections.BTreeMap.{BTreeMap}
 use Rattle.tera_objects.specs.Engine.{Engine}
 use Rattle.tera_meaning.specs.Registry.{Entry, Registry}
 use Rattle.tera_meaning.specs.Accepted.{leads_into_a_circle}
-use Rattle.tera_registry.specs.declared.choices.Choice.{Choice}
-use Rattle.tera_registry.specs.declared.lineage.Up.{Up}
+use Rattle.tera_registry.specs.declared.component_table.ComponentAt.{ComponentAt}
+use Rattle.tera_registry.specs.declared.roots.Parent.{Parent}
 use Rattle.tera_registry.specs.declared.template.Template.{Template as Stored}
 use Rattle.tera_registry.specs.Choices.{AreChosen, IsFirstTie}
 use Rattle.tera_registry.specs.Definers.{Grounded, Climbable}
@@ -17,11 +17,11 @@ use Rattle.tera_registry.proofs.Adds.{walks-same}
 use Rattle.tera_registry.proofs.Listed.{chosen-in-all}
 
 module _ (engine : Engine) (ts : List (Rc Stored Global)) (ps : List (String Global)) where
-  pub ups-served : (ups : List Up) (many : ℕ) → AreUps (seen ts ps) ups many → AreUps (seen_by engine ts ps) ups many
+  pub ups-served : (ups : List Parent) (many : ℕ) → AreUps (seen ts ps) ups many → AreUps (seen_by engine ts ps) ups many
   ups-served ups many a = record { as_many = a.as_many; those = a.those }
 
   -- parents are looked for along what each extends
-  pub climbable-served : (r : Registry) (ups : List Up) → seen_by engine ts ps ≡ r → Rises (entries_of ts) → AreUps (seen ts ps) ups (length (entries_of ts)) → Grounded r → Climbable r ts ups
+  pub climbable-served : (r : Registry) (ups : List Parent) → seen_by engine ts ps ≡ r → Rises (entries_of ts) → AreUps (seen ts ps) ups (length (entries_of ts)) → Grounded r → Climbable r ts ups
   climbable-served r ups here rises a all = record {
     same = ap (λ (q : Registry). q.templates) here;
     rises = subst (λ (q : Registry). Rises q.templates) here rises;
@@ -44,5 +44,5 @@ module _ (engine : Engine) (ts : List (Rc Stored Global)) (ps : List (String Glo
   tie-served None none = none
   tie-served (Some c) is = is
 
-  pub chosen-served : (choices : BTreeMap (String Global) Choice Global) → AreChosen (seen ts ps) choices → AreChosen (seen_by engine ts ps) choices
+  pub chosen-served : (choices : BTreeMap (String Global) ComponentAt Global) → AreChosen (seen ts ps) choices → AreChosen (seen_by engine ts ps) choices
   chosen-served choices known = chosen-in-all (seen_by engine ts ps) choices known

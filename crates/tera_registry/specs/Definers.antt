@@ -9,7 +9,7 @@ use Rattle.tera_meaning.specs.Registry.{Entry, Registry}
 use Rattle.tera_meaning.specs.Resolve.{parents}
 use Rattle.tera_meaning.specs.Lineage.{ancestors}
 use Rattle.tera_registry.specs.declared.template.Template.{Template as Stored}
-use Rattle.tera_registry.specs.declared.lineage.Up.{Up}
+use Rattle.tera_registry.specs.declared.roots.Parent.{Parent}
 use Rattle.tera_registry.specs.Kept.{entries_of}
 use Rattle.tera_registry.specs.Links.{AreUps}
 use Rattle.tera_registry.specs.Order.{Rises}
@@ -28,7 +28,7 @@ pub record Grounded (r : Registry) : Type 0 where
 
 -- these are the templates of a registry in which each has all its parents,
 -- and this is what each extends
-pub record Climbable (r : Registry) (ts : List (Rc Stored Global)) (ups : List Up) : Type 0 where
+pub record Climbable (r : Registry) (ts : List (Rc Stored Global)) (ups : List Parent) : Type 0 where
   pub same : entries_of ts ≡ r.templates
   pub rises : Rises r.templates
   pub above : AreUps r ups (length r.templates)

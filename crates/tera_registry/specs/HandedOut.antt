@@ -6,7 +6,7 @@ use Rattle.tera_code.specs.Code.{listing_of}
 use Rattle.tera_code.specs.Targets.{Target, target_in}
 use Rattle.tera_registry.specs.declared.body.Body.{Body}
 use Rattle.tera_registry.specs.declared.code.Take.{Take}
-use Rattle.tera_registry.specs.declared.table.Link.{Link}
+use Rattle.tera_registry.specs.declared.body_table.Link.{Link}
 use Rattle.tera_registry.specs.declared.templates.Defined.{Defined}
 use Rattle.tera_components.specs.Definition.{Definition}
 use Rattle.tera_registry.specs.Kept.{seen}

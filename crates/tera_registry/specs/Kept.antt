@@ -6,7 +6,7 @@ use Rattle.tera_values.specs.Named.{Named}
 use Rattle.tera_objects.specs.Engine.{Engine}
 use Rattle.tera_meaning.specs.Registry.{Template, Entry, Registry, new_registry}
 use Rattle.tera_registry.specs.declared.template.Template.{Template as Stored}
-use Rattle.tera_registry.specs.Meant.{tree_meant}
+use Rattle.tera_registry.specs.TemplateTree.{tree_meant}
 pub use Rattle.tera_registry.specs.Order.{Rises}
 
 abbrev pub entry_of : Stored → Entry

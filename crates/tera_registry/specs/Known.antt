@@ -10,18 +10,18 @@ use Rattle.tera_code.specs.Code.{Code}
 use Rattle.tera_code.specs.Called.{called_by}
 use Rattle.tera_objects.specs.Engine.{Engine}
 use Rattle.tera_meaning.specs.Known.{is_known}
-use Rattle.tera_registry.specs.declared.choices.Choice.{Choice}
+use Rattle.tera_registry.specs.declared.component_table.ComponentAt.{ComponentAt}
 use Rattle.tera_registry.specs.declared.components.Component.{Component}
-use Rattle.tera_registry.specs.declared.own.Own.{Own}
+use Rattle.tera_registry.specs.declared.text_components.TextComponents.{TextComponents}
 use Rattle.tera_registry.specs.Choices.{chosen}
 
 -- the components of a text beside the templates, where there is one
-abbrev pub beside : Option Own → List Component
+abbrev pub beside : Option TextComponents → List Component
 beside None = []
 beside (Some own) = own.components.now
 
 -- whether a component is taken of a name, or is one of these
-abbrev pub is_there : BTreeMap (String Global) Choice Global → List Component → Name → Bool
+abbrev pub is_there : BTreeMap (String Global) ComponentAt Global → List Component → Name → Bool
 is_there choices own name =
     is_some (chosen choices name) || list_any (λ c. bytes_eq name c.definition.name) own
 

@@ -1,14 +1,14 @@
 pub mod Order
 pub mod Positions
 pub mod Coding
-pub mod Meant
+pub mod TemplateTree
 pub mod Kept
 pub mod Components
 pub mod Places
 pub mod Choices
 pub mod Known
 pub mod Naming
-pub mod Needs
+pub mod OutsideCalls
 pub mod Batch
 pub mod Put
 pub mod First

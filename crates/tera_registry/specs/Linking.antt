@@ -1,12 +1,12 @@
 -- The table while it is made.
 use Rattle.std.specs.Prelude.{ℕ, List, length, Option}
 use Rattle.std.specs.List.{All}
-use Rattle.tera_meaning.specs.Registry.{Registry, Entry as Meant}
+use Rattle.tera_meaning.specs.Registry.{Registry, LinkedBody as Meant}
 use Rattle.tera_meaning.specs.Lineage.{ancestors}
 use Rattle.tera_registry.specs.declared.code.TemplateBlock.{TemplateBlock}
-use Rattle.tera_registry.specs.declared.table.Entry.{Entry}
-use Rattle.tera_registry.specs.declared.table.Linking.{Linking}
-use Rattle.tera_registry.specs.declared.table.Targets.{Targets}
+use Rattle.tera_registry.specs.declared.body_table.LinkedBody.{LinkedBody}
+use Rattle.tera_registry.specs.declared.body_table.Linking.{Linking}
+use Rattle.tera_registry.specs.declared.body_table.Targets.{Targets}
 use Rattle.tera_registry.specs.Bodies.{AreStarts}
 use Rattle.tera_registry.specs.Definers.{Climbable}
 use Rattle.tera_registry.specs.References.{IsLinked}
@@ -14,7 +14,7 @@ use Rattle.tera_registry.specs.Kept.{Rises, entries_of, seen}
 use Rattle.tera_registry.specs.Numbers.{first_of, lineage}
 
 -- what the code of all these takes leads to these targets
-abbrev pub AreLinked : Targets → List Entry → Type 0
+abbrev pub AreLinked : Targets → List LinkedBody → Type 0
 AreLinked to = All (IsLinked (seen to.templates.now to.prefixes.now) to.choices.now)
 
 -- of a block of a template, the number of the next body above that defines it

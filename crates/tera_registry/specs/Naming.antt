@@ -4,8 +4,8 @@ use Rattle.tera_errors.specs.Site.{Name}
 use Rattle.tera_syntax_tree.specs.Tree.{Node, Nodes}
 use Rattle.tera_syntax_tree.specs.Blocks.{top_blocks, node_top_blocks}
 use Rattle.tera_syntax_tree.specs.Includes.{includes, node_includes}
-use Rattle.tera_registry.specs.declared.naming.Naming.{Naming}
-use Rattle.tera_registry.specs.declared.naming.Naming.TheVariants as naming
+use Rattle.tera_registry.specs.declared.node_names.Naming.{Naming}
+use Rattle.tera_registry.specs.declared.node_names.Naming.TheVariants as naming
 
 abbrev pub named : Naming → Nodes → List Name
 named naming.Includes = includes

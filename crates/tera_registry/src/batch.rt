@@ -10,25 +10,25 @@ ghost use Rattle.tera_registry.specs.Batch.{pairs_of};
 ghost use Rattle.tera_registry.specs.Put.{Makes, Puts};
 ghost use Rattle.tera_registry.specs.Components.{kept_block, kept_of, kept_all};
 ghost use Rattle.tera_registry.specs.Kept.{Rises, entry_of, entries_of};
-ghost use Rattle.tera_registry.specs.Needs.{needs_of};
+ghost use Rattle.tera_registry.specs.OutsideCalls.{needs_of};
 
 use crate::code::{Code, TemplateBlock};
 use crate::components::{Component, components};
-use crate::meant::Meant;
-use crate::merge::{merged, sorted};
-use crate::names::put;
-use crate::naming::{Naming, all_includes, names_in};
-use crate::needs::{Need, needs};
+use crate::template_tree::TemplateTree;
+use crate::merge::{merge, sort};
+use crate::resolve::put;
+use crate::node_names::{Naming, all_includes, names_in};
+use crate::outside_calls::{OutsideCall, outside_calls};
 use crate::places::block_places;
 use crate::template::Template;
 use std::alloc::{AllocError, Global};
 use std::rc::Rc;
 use tera_code::blocks::blocks;
-use tera_code::{BlockCode, compiled};
+use tera_code::{BlockCode, compile_body};
 use tera_errors::TeraResult;
 use tera_syntax::parse;
 use tera_syntax_tree::{Delimiters, ParserOutput, Quoted};
-use tera_variables::free;
+use tera_variables::free_names;
 
 /// Reads each text and puts it at its name, up to the first that spells no tree.
 pub fn put_all(
@@ -51,8 +51,8 @@ pub fn put_all(
     match read.as_slice() {
         [template] => put(templates, template.clone()?),
         several => {
-            let sorted = sorted(alloc, several)?;
-            *templates = merged(alloc, sorted.as_slice(), templates.as_slice())?;
+            let sorted = sort(alloc, several)?;
+            *templates = merge(alloc, sorted.as_slice(), templates.as_slice())?;
             Ok(())
         }
     }
@@ -85,19 +85,19 @@ fn read(alloc: Global, delimiters: &Delimiters, name: &str, text: &str) -> TeraR
     ensures { GivesOneOf entry_of result (Makes (delimiters_of delimiters.now) name.now text.now) }
 {
     match parse(alloc, name, text, delimiters) {
-        Ok(output) => made(alloc, &output, name, text),
+        Ok(output) => template_of(alloc, &output, name, text),
         Err(error) => Err(error),
     }
 }
 
 /// The template of a name and a text that was read to this.
-fn made(alloc: Global, output: &ParserOutput, name: &str, text: &str) -> TeraResult<Template>
+fn template_of(alloc: Global, output: &ParserOutput, name: &str, text: &str) -> TeraResult<Template>
     ensures ok { IfOk result
         (λ t. entry_of t ≡ (name.now, record { text = text.now; tree = tree_of output.now })) }
     ensures lacks { IfErr result Lacks }
 {
     let code = code_of(alloc, name, output)?;
-    assembled(alloc, output, name, text, code)
+    assemble(alloc, output, name, text, code)
 }
 
 /// The code of a template, and what that needs.
@@ -106,7 +106,7 @@ struct TemplateCode {
     body: Rc<Code>,
     blocks: Vec<TemplateBlock>,
     components: Vec<Component>,
-    needs: Vec<Need>,
+    needs: Vec<OutsideCall>,
 }
 
 /// What the text of the template of this name is compiled to that was read to this.
@@ -121,10 +121,10 @@ fn code_of(alloc: Global, name: &str, output: &ParserOutput) -> TeraResult<Templ
     ensures lacks { IfErr result Lacks }
 {
     let nodes = output.nodes.as_slice();
-    let body = Code::new(alloc, compiled(alloc, name, nodes)?)?;
+    let body = Code::new(alloc, compile_body(alloc, name, nodes)?)?;
     let blocks = kept_blocks(alloc, blocks(alloc, name, nodes)?)?;
     let components = components(alloc, name, output.component_definitions.as_slice())?;
-    let needs = needs(
+    let needs = outside_calls(
         alloc,
         output,
         name,
@@ -165,7 +165,7 @@ fn keep(alloc: Global, block: BlockCode, kept: &mut Vec<TemplateBlock>) -> TeraR
 }
 
 /// The template of a name and a text that was read to this, with its code.
-fn assembled(
+fn assemble(
     alloc: Global,
     output: &ParserOutput,
     name: &str,
@@ -192,11 +192,11 @@ fn assembled(
     let places = block_places(alloc, blocks.as_slice())?;
     let tops = names_in(alloc, Naming::TopBlocks, nodes)?;
     let includes = all_includes(alloc, output)?;
-    let free = free(alloc, nodes)?;
+    let free = free_names(alloc, nodes)?;
     Ok(Template {
         name: String::from_str(alloc, name)?,
         text: String::from_str(alloc, text)?,
-        parent: owned(alloc, &output.parent)?,
+        parent: owned_text(alloc, &output.parent)?,
         body,
         blocks,
         places,
@@ -205,11 +205,11 @@ fn assembled(
         free,
         components,
         needs,
-        meant: Meant::of(nodes, output.component_definitions.as_slice()),
+        meant: TemplateTree::of_nodes(nodes, output.component_definitions.as_slice()),
     })
 }
 
-fn owned(alloc: Global, text: &Option<Quoted>) -> Result<Option<String>, AllocError>
+fn owned_text(alloc: Global, text: &Option<Quoted>) -> Result<Option<String>, AllocError>
     ensures { IfOk result (λ t. option_map string_bytes t ≡ quoted_option text.now) }
 {
     match text {

@@ -6,7 +6,7 @@ ghost use Rattle.tera_registry.specs.Kept.{seen};
 ghost use Rattle.tera_registry.specs.References.{IsLinked, IsLinked-prop};
 
 use crate::code::{Code, rank};
-use crate::table::{Entry, Link};
+use crate::body_table::{LinkedBody, Link};
 use crate::templates::{Defined, FoundTemplate, Templates};
 use tera_code::Chunk;
 
@@ -15,7 +15,7 @@ use tera_code::Chunk;
 pub struct Body<'t> {
     pub templates: &'t Templates,
     pub(crate) code: &'t Code,
-    pub(crate) entry: &'t Entry,
+    pub(crate) entry: &'t LinkedBody,
     ghost right: { IsLinked (seen templates.now.all.items templates.now.prefixes.items)
         templates.now.choices entry.now } by { Prim.hlevel IsLinked-prop },
     ghost shared: { entry.now.code.value.chunk ≡ code.now.chunk } by { Prim.hlevel
@@ -26,7 +26,7 @@ pub struct Body<'t> {
 
 impl<'t> Body<'t> {
     // The body of an entry.
-    pub(crate) fn new(templates: &'t Templates, entry: &'t Entry) -> Body<'t>
+    pub(crate) fn new(templates: &'t Templates, entry: &'t LinkedBody) -> Body<'t>
         requires { IsLinked (seen templates.now.all.items templates.now.prefixes.items)
             templates.now.choices entry.now }
         ensures templates { result.templates.now ≡ templates.now }
@@ -59,7 +59,7 @@ impl<'t> Body<'t> {
         ensures some { IfSome result (IsLink self.now) }
         ensures exact { Leading self.now at result }
     {
-        let entry: &'t Entry = self.entry;
+        let entry: &'t LinkedBody = self.entry;
         let number = rank(self.code.takes.as_slice(), at)?;
         Some(entry.links[number])
     }
@@ -70,7 +70,7 @@ impl<'t> Body<'t> {
             → Finds (with_templates r self.now.templates.now) name result }
     {
         let link = self.link_at(at)?;
-        let position = link.place()?;
+        let position = link.template()?;
         let templates: &'t Templates = self.templates;
         Some(templates.found_at(position))
     }
@@ -82,7 +82,7 @@ impl<'t> Body<'t> {
             → IsDefined (component (with_templates r self.now.templates.now) name) result }
     {
         let link = self.link_at(at)?;
-        let choice = link.choice()?;
+        let choice = link.component()?;
         let templates: &'t Templates = self.templates;
         Some(templates.defined_at(choice))
     }

@@ -7,7 +7,7 @@ ghost use Rattle.tera_registry.specs.Components.{kept_of, kept_as, kept_all};
 use crate::code::Code;
 use std::alloc::Global;
 use std::rc::Rc;
-use tera_code::compiled;
+use tera_code::compile_body;
 use tera_components::ComponentDefinition;
 use tera_errors::TeraResult;
 use tera_syntax_tree::DefinedComponent;
@@ -42,6 +42,6 @@ fn kept_component(alloc: Global, file: &str, defined: &DefinedComponent) -> Tera
     ensures lacks { IfErr result Lacks }
 {
     let definition = ComponentDefinition::new(alloc, &defined.signature)?;
-    let code = Code::new(alloc, compiled(alloc, file, defined.body.as_slice())?)?;
+    let code = Code::new(alloc, compile_body(alloc, file, defined.body.as_slice())?)?;
     Ok(Component { definition, code })
 }

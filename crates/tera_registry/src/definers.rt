@@ -7,30 +7,30 @@ ghost use Rattle.tera_registry.specs.Definers.{Climbable, names_of};
 ghost use Rattle.tera_registry.specs.Edges.{AreEdges};
 ghost use Rattle.tera_registry.specs.Kept.{entry_of};
 ghost use Rattle.tera_registry.specs.Known.{is_there};
-ghost use Rattle.tera_registry.specs.Needs.{is_unmet};
+ghost use Rattle.tera_registry.specs.OutsideCalls.{is_missing_call};
 ghost use Rattle.tera_registry.specs.Numbers.{first_of, lineage, number_at};
 ghost use Rattle.tera_registry.specs.Places.{place_from};
 ghost use Rattle.tera_registry.specs.Walks.{rows};
 
-use crate::choices::Choice;
-use crate::known::is_known;
-use crate::lineage::Up;
-use crate::needs::Need;
+use crate::component_table::ComponentAt;
+use crate::missing_callees::is_known;
+use crate::roots::Parent;
+use crate::outside_calls::OutsideCall;
 use crate::template::Template;
 use std::collections::BTreeMap;
 use std::rc::Rc;
 use tera_objects::Objects;
-use tera_values::Sought;
+use tera_values::NameRef;
 
 /// Where a block stands: the position of its template, and which of its blocks it is.
 #[derive(Clone, Copy)]
-pub struct At {
+pub struct BlockAt {
     pub template: usize,
     pub block: usize,
 }
 
 /// Where a block of this name stands among those of a template.
-fn own(template: &Template, block: &Sought<'_>) -> Option<usize>
+fn own_block(template: &Template, block: &NameRef<'_>) -> Option<usize>
     ensures { result ≡ place_from block.now 0 (names_of (entry_of template.now)) }
 {
     let position = template.places.get(block.as_str())?;
@@ -38,7 +38,7 @@ fn own(template: &Template, block: &Sought<'_>) -> Option<usize>
 }
 
 /// Where the first of those stands who define a block, from a template on: itself, then its parents.
-pub fn first(templates: &[Rc<Template>], ups: &[Up], from: usize, block: &Sought<'_>) -> Option<At>
+pub fn first_definer(templates: &[Rc<Template>], ups: &[Parent], from: usize, block: &NameRef<'_>) -> Option<BlockAt>
     ghost registry: { Registry }
     requires climbable { Climbable registry templates.now ups.now }
     requires there { from < length templates.now }
@@ -50,27 +50,27 @@ pub fn first(templates: &[Rc<Template>], ups: &[Up], from: usize, block: &Sought
     let mut last = from;
     'up: loop {
         let template: &Template = &templates[last];
-        if let Some(position) = own(template, block) {
-            return Some(At {
+        if let Some(position) = own_block(template, block) {
+            return Some(BlockAt {
                 template: last,
                 block: position,
             });
         }
         match ups[last] {
-            Up::At(next) => last = next,
-            Up::Nothing => return None,
-            Up::Missing => return None,
+            Parent::At(next) => last = next,
+            Parent::None => return None,
+            Parent::Missing => return None,
         }
     }
 }
 
 /// Where the first of those stands who define a block above a template.
-pub fn first_above(
+pub fn first_definer_above(
     templates: &[Rc<Template>],
-    ups: &[Up],
+    ups: &[Parent],
     of: usize,
-    block: &Sought<'_>,
-) -> Option<At>
+    block: &NameRef<'_>,
+) -> Option<BlockAt>
     ghost registry: { Registry }
     requires climbable { Climbable registry templates.now ups.now }
     requires there { of < length templates.now }
@@ -80,14 +80,14 @@ pub fn first_above(
         ≡ first_of (lineage registry block.now (ancestors registry t)) }
 {
     match ups[of] {
-        Up::At(next) => first(templates, ups, next, block),
-        Up::Nothing => None,
-        Up::Missing => None,
+        Parent::At(next) => first_definer(templates, ups, next, block),
+        Parent::None => None,
+        Parent::Missing => None,
     }
 }
 
 /// Whether a template extends another and has a block, inside no other block, that none of its parents has.
-fn loses(templates: &[Rc<Template>], ups: &[Up], of: usize) -> bool
+fn has_orphan_block(templates: &[Rc<Template>], ups: &[Parent], of: usize) -> bool
     ghost registry: { Registry }
     requires climbable { Climbable registry templates.now ups.now }
     requires there { of < length templates.now }
@@ -99,8 +99,8 @@ fn loses(templates: &[Rc<Template>], ups: &[Up], of: usize) -> bool
         return false;
     }
     for name in &template.tops {
-        let sought = name.sought();
-        match first_above(templates, ups, of, &sought) {
+        let sought = name.as_name_ref();
+        match first_definer_above(templates, ups, of, &sought) {
             None => return true,
             Some(_) => {}
         }
@@ -109,7 +109,7 @@ fn loses(templates: &[Rc<Template>], ups: &[Up], of: usize) -> bool
 }
 
 /// Whether a template includes what is not there, where so many of those that it includes are.
-fn misses(of: &Template, included: usize) -> bool
+fn has_missing_include(of: &Template, included: usize) -> bool
     ensures { (r : Registry) → included ≡ length (includes_of r (entry_of of.now))
         → result ≡ misses_an_include r (entry_of of.now).1.tree }
 {
@@ -117,40 +117,40 @@ fn misses(of: &Template, included: usize) -> bool
 }
 
 /// Whether what is needed is not there: no object, and no component.
-fn is_unmet<O: Objects>(objects: &O, choices: &BTreeMap<String, Choice>, need: &Need) -> bool
-    ensures { result ≡ is_unmet (O.engine objects.now) (is_there choices.now []) need.now }
+fn is_missing_call<O: Objects>(objects: &O, choices: &BTreeMap<String, ComponentAt>, need: &OutsideCall) -> bool
+    ensures { result ≡ is_missing_call (O.engine objects.now) (is_there choices.now []) need.now }
 {
     !is_known(objects, choices, None, need.callee())
 }
 
 /// Whether something of what is needed is not there.
-fn any_unmet<O: Objects>(objects: &O, choices: &BTreeMap<String, Choice>, needs: &[Need]) -> bool
+fn has_missing_call<O: Objects>(objects: &O, choices: &BTreeMap<String, ComponentAt>, needs: &[OutsideCall]) -> bool
     ensures { result
-        ≡ list_any (is_unmet (O.engine objects.now) (is_there choices.now [])) needs.now }
+        ≡ list_any (is_missing_call (O.engine objects.now) (is_there choices.now [])) needs.now }
 {
-    needs.iter().any(|need| is_unmet(objects, choices, need))
+    needs.iter().any(|need| is_missing_call(objects, choices, need))
 }
 
 /// Whether a template calls what is not there. What is built in is none of its needs.
-fn misses_a_callee<O: Objects>(
+fn has_missing_callee<O: Objects>(
     objects: &O,
-    choices: &BTreeMap<String, Choice>,
+    choices: &BTreeMap<String, ComponentAt>,
     of: &Template,
 ) -> bool
     ensures { (r : Registry) → AreChosen r choices.now → r.engine ≡ O.engine objects.now
         → result ≡ lacks_a_callee r.engine (is_component r) (entry_of of.now).1.tree }
 {
-    any_unmet(objects, choices, of.needs.as_slice())
+    has_missing_call(objects, choices, of.needs.as_slice())
 }
 
 /// Whether a template names what is not there: a block that is never put out, or what it calls or includes. So many of
 /// those that it includes are there.
-fn lacks<O: Objects>(
+fn is_incomplete<O: Objects>(
     templates: &[Rc<Template>],
-    ups: &[Up],
+    ups: &[Parent],
     of: usize,
     included: usize,
-    choices: &BTreeMap<String, Choice>,
+    choices: &BTreeMap<String, ComponentAt>,
     objects: &O,
 ) -> bool
     ghost registry: { Registry }
@@ -164,18 +164,18 @@ fn lacks<O: Objects>(
         → result ≡ lacks_something registry t }
 {
     let template: &Template = &templates[of];
-    loses(templates, ups, of)
-        || misses_a_callee(objects, choices, template)
-        || misses(template, included)
+    has_orphan_block(templates, ups, of)
+        || has_missing_callee(objects, choices, template)
+        || has_missing_include(template, included)
 }
 
 /// Whether any template names what is not there, where this is what each extends and includes, and these are the
 /// definitions of components that are taken, and the objects.
-pub fn any_lacks<O: Objects>(
+pub fn any_is_incomplete<O: Objects>(
     templates: &[Rc<Template>],
-    ups: &[Up],
+    ups: &[Parent],
     edges: &[Vec<usize>],
-    choices: &BTreeMap<String, Choice>,
+    choices: &BTreeMap<String, ComponentAt>,
     objects: &O,
 ) -> bool
     ghost registry: { Registry }
@@ -187,7 +187,7 @@ pub fn any_lacks<O: Objects>(
     ensures { result ≡ list_any (lacks_something registry) registry.templates }
 {
     for position in 0..templates.len() {
-        if lacks(
+        if is_incomplete(
             templates,
             ups,
             position,

@@ -5,23 +5,23 @@ ghost use Rattle.tera_syntax_tree.specs.Prelude.{definitions_include, definition
 ghost use Rattle.tera_meaning.specs.Prelude.{misses_an_include, resolve};
 ghost use Rattle.tera_registry.specs.Kept.{Rises, entries_of, seen};
 
-use crate::names::resolve;
+use crate::resolve::resolve;
 use crate::template::Template;
 use std::rc::Rc;
 use tera_syntax_tree::{DefinedComponent, Node, ParserOutput};
 
 /// Whether a text includes what is not there, in its nodes or in a component. Takes no memory.
-pub fn misses(output: &ParserOutput, templates: &[Rc<Template>], prefixes: &[String]) -> bool
+pub fn has_missing_include(output: &ParserOutput, templates: &[Rc<Template>], prefixes: &[String]) -> bool
     requires { Rises (entries_of templates.now) }
     ensures { result
         ≡ misses_an_include (seen templates.now prefixes.now) (tree_of output.now) }
 {
-    nodes_miss(output.nodes.as_slice(), templates, prefixes)
-        || components_miss(output.component_definitions.as_slice(), templates, prefixes)
+    nodes_have_missing_include(output.nodes.as_slice(), templates, prefixes)
+        || components_have_missing_include(output.component_definitions.as_slice(), templates, prefixes)
 }
 
 // Whether components include what is not there.
-fn components_miss(
+fn components_have_missing_include(
     definitions: &[DefinedComponent],
     templates: &[Rc<Template>],
     prefixes: &[String],
@@ -32,7 +32,7 @@ fn components_miss(
         (definitions_include (definitions_of definitions.now)) }
 {
     for defined in definitions {
-        if nodes_miss(defined.body.as_slice(), templates, prefixes) {
+        if nodes_have_missing_include(defined.body.as_slice(), templates, prefixes) {
             return true;
         }
     }
@@ -41,13 +41,13 @@ fn components_miss(
 
 // Whether nodes include what is not there.
 #[cycle(missing)]
-fn nodes_miss(nodes: &[Node], templates: &[Rc<Template>], prefixes: &[String]) -> bool
+fn nodes_have_missing_include(nodes: &[Node], templates: &[Rc<Template>], prefixes: &[String]) -> bool
     requires { Rises (entries_of templates.now) }
     ensures { let r = seen templates.now prefixes.now in
         result ≡ list_any (λ name. is_none (resolve r name)) (includes (nodes_of nodes.now)) }
 {
     for node in nodes {
-        if node_misses(node, templates, prefixes) {
+        if node_has_missing_include(node, templates, prefixes) {
             return true;
         }
     }
@@ -56,20 +56,20 @@ fn nodes_miss(nodes: &[Node], templates: &[Rc<Template>], prefixes: &[String]) -
 
 // Whether a node includes what is not there.
 #[cycle(missing)]
-fn node_misses(node: &Node, templates: &[Rc<Template>], prefixes: &[String]) -> bool
+fn node_has_missing_include(node: &Node, templates: &[Rc<Template>], prefixes: &[String]) -> bool
     requires { Rises (entries_of templates.now) }
     ensures { let r = seen templates.now prefixes.now in
         result ≡ list_any (λ name. is_none (resolve r name)) (node_includes (node_of node.now)) }
 {
     match node {
         Node::If { body, other, .. } | Node::For { body, other, .. } => {
-            nodes_miss(body.as_slice(), templates, prefixes)
-                || nodes_miss(other.as_slice(), templates, prefixes)
+            nodes_have_missing_include(body.as_slice(), templates, prefixes)
+                || nodes_have_missing_include(other.as_slice(), templates, prefixes)
         }
-        Node::Block(block) => nodes_miss(block.body.as_slice(), templates, prefixes),
+        Node::Block(block) => nodes_have_missing_include(block.body.as_slice(), templates, prefixes),
         Node::Capture { body, .. }
         | Node::FilterSection { body, .. }
-        | Node::ComponentCall { body, .. } => nodes_miss(body.as_slice(), templates, prefixes),
+        | Node::ComponentCall { body, .. } => nodes_have_missing_include(body.as_slice(), templates, prefixes),
         Node::Include { name, .. } => resolve(templates, prefixes, name.as_str()).is_none(),
         Node::Content { .. }
         | Node::Print { .. }

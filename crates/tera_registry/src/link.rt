@@ -10,15 +10,15 @@ ghost use Rattle.tera_registry.specs.Bodies.{listings, AreStarts};
 ghost use Rattle.tera_registry.specs.Numbers.{above_of, aboves};
 ghost use Rattle.tera_registry.specs.References.{chunk_of, IsLinked};
 
-use crate::choices::{Choice, Taken, choices};
-use crate::definers::any_lacks;
-use crate::edges::edges;
-use crate::lineage::{Up, all_above, roots};
-use crate::table::{Table, table_of};
+use crate::component_table::{ComponentAt, ComponentTable, components_by_name};
+use crate::definers::any_is_incomplete;
+use crate::include_edges::edges;
+use crate::roots::{Parent, parents_of_all, roots};
+use crate::body_table::{BodyTable, table_of};
 use crate::template::Template;
-use crate::told_circles::in_words;
+use crate::told_circles::fault_in_words;
 use crate::told_missing::all_missing;
-use crate::walks::least_circle;
+use crate::include_circles::least_circle;
 use std::alloc::Global;
 use std::collections::BTreeMap;
 use std::rc::Rc;
@@ -29,10 +29,10 @@ use tera_objects::Objects;
 /// component is taken, and what code names of all that.
 #[derive(Drop)]
 pub struct Links {
-    pub ups: Vec<Up>,
+    pub ups: Vec<Parent>,
     pub roots: Vec<usize>,
-    pub choices: BTreeMap<String, Choice>,
-    pub table: Table,
+    pub choices: BTreeMap<String, ComponentAt>,
+    pub table: BodyTable,
 }
 
 /// Links templates. Refuses those that do not go together, with the first fault by name.
@@ -59,14 +59,14 @@ pub fn link<O: Objects>(
     ensures right { IfOk result (λ l. All
         (IsLinked (seen templates.now prefixes.now) l.choices) l.table.entries.items) }
 {
-    let ups = all_above(alloc, templates, prefixes)?;
+    let ups = parents_of_all(alloc, templates, prefixes)?;
     let edges = edges(alloc, templates, prefixes)?;
     let circle = least_circle(alloc, edges.as_slice())?;
-    let Taken { choices, tie } = choices(alloc, templates, prefixes)?;
+    let ComponentTable { choices, tie } = components_by_name(alloc, templates, prefixes)?;
     let roots = match roots(alloc, ups.as_slice(), circle, tie) {
         Ok(roots) => roots,
         Err(fault) => {
-            return Err(in_words(
+            return Err(fault_in_words(
                 alloc,
                 templates,
                 prefixes,
@@ -77,7 +77,7 @@ pub fn link<O: Objects>(
             ));
         }
     };
-    if any_lacks(
+    if any_is_incomplete(
         templates,
         ups.as_slice(),
         edges.as_slice(),

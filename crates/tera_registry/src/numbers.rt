@@ -3,14 +3,14 @@ ghost use Rattle.std.specs.Prelude.{◌≡◌, ◌+◌, ◌<◌, suc, length, sl
 ghost use Rattle.tera_registry.specs.Bodies.{codes_of, AreStarts};
 ghost use Rattle.tera_registry.specs.Kept.{entry_of, entries_of};
 
-use crate::definers::At;
+use crate::definers::BlockAt;
 use crate::template::Template;
 use std::alloc::{AllocError, Global};
 use std::rc::Rc;
 
 /// The number of the body behind those of a template, of which the first one has this number. More than can be numbered is want of
 /// memory.
-fn behind(number: usize, template: &Template) -> Result<usize, AllocError>
+fn number_after(number: usize, template: &Template) -> Result<usize, AllocError>
     ensures { IfOk result (λ n. n ≡ number + length (codes_of (entry_of template.now))) }
 {
     let bodies = 1 + template.blocks.len() + template.components.len();
@@ -29,13 +29,13 @@ pub fn starts(alloc: Global, templates: &[Rc<Template>]) -> Result<Vec<usize>, A
     let mut number = 0;
     for template in templates {
         starts.push(number)?;
-        number = behind(number, template)?;
+        number = number_after(number, template)?;
     }
     Ok(starts)
 }
 
 /// The number of the body of the block that stands there.
-pub fn block_number(starts: &[usize], at: At) -> Result<usize, AllocError>
+pub fn block_number(starts: &[usize], at: BlockAt) -> Result<usize, AllocError>
     requires { at.template < length starts.now }
     ensures { IfOk result (λ n. n ≡ slice_index starts.now at.template + suc at.block) }
 {

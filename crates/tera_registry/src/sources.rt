@@ -2,7 +2,7 @@
 ghost use Rattle.std.specs.Prelude.{◌≡◌, option_map};
 ghost use Rattle.tera_meaning.specs.Resolve.{entry_at};
 
-use crate::names::find;
+use crate::resolve::find;
 use crate::template::Template;
 use crate::templates::Templates;
 use tera_errors::Sources;

@@ -5,10 +5,10 @@ ghost use Rattle.tera_syntax_tree.specs.Blocks as in_tree;
 ghost use Rattle.tera_syntax_tree.specs.Prelude.{definitions_of, nodes_of, tree_includes};
 ghost use Rattle.tera_components.specs.Prelude.{definition_coding};
 ghost use Rattle.tera_registry.specs.Components as kept;
-ghost use Rattle.tera_registry.specs.Meant.{tree_meant};
-ghost use Rattle.tera_registry.specs.Needs.{needs_of};
+ghost use Rattle.tera_registry.specs.TemplateTree.{tree_meant};
+ghost use Rattle.tera_registry.specs.OutsideCalls.{needs_of};
 ghost use Rattle.tera_registry.specs.Places.{ArePlaces};
-ghost use Rattle.tera_registry.specs.contracts.needs.Need as need;
+ghost use Rattle.tera_registry.specs.contracts.outside_calls.OutsideCall as need;
 ghost use Rattle.tera_code.specs.Prelude.{block_listings, listing_of};
 ghost use Rattle.tera_code.specs.contracts.chunk.Chunk as chunk;
 ghost use Rattle.tera_variables.specs.Free as in_text;
@@ -16,8 +16,8 @@ ghost use Rattle.tera_variables.specs.Prelude.{names_in};
 
 use crate::code::{Code, TemplateBlock};
 use crate::components::Component;
-use crate::meant::Meant;
-use crate::needs::Need;
+use crate::template_tree::TemplateTree;
+use crate::outside_calls::OutsideCall;
 use std::collections::{BTreeMap, BTreeSet};
 use std::rc::Rc;
 use tera_values::Name;
@@ -44,8 +44,8 @@ pub struct Template {
     /// The components that it defines, in the order of its text.
     pub(crate) components: Vec<Component>,
     /// What it calls that is not built in. Whether that is there is looked up when templates are linked.
-    pub(crate) needs: Vec<Need>,
-    pub(crate) meant: Meant,
+    pub(crate) needs: Vec<OutsideCall>,
+    pub(crate) meant: TemplateTree,
     ghost compiled: { body.value.chunk
         ≡ listing_of (string_bytes name) (nodes_of meant.nodes) } by { Prim.hlevel
             (codes, chunk.the_row.coded) },

@@ -5,7 +5,7 @@ ghost use Rattle.tera_syntax_tree.specs.Prelude.{delimiters_of, accepted, tree_o
 ghost use Rattle.tera_meaning.specs.Prelude.{component, first_fault, is_component, misses_an_include, ancestors, AreComponentNames, AnswersVariables, resolve, Entry, Registry};
 ghost use Rattle.std.specs.Coded.{codes};
 ghost use Rattle.tera_code.specs.contracts.chunk.Chunk as chunk;
-ghost use Rattle.tera_registry.specs.contracts.choices.Choice as choice;
+ghost use Rattle.tera_registry.specs.contracts.component_table.ComponentAt as choice;
 ghost use Rattle.tera_registry.specs.Choices.{AreChosen, IsTaken, chosen};
 ghost use Rattle.std.specs.List.{All};
 ghost use Rattle.tera_registry.specs.Bodies.{listings, start, AreStarts, AreRooted};
@@ -19,13 +19,13 @@ ghost use Rattle.tera_registry.specs.Batch.{ConfiguresOneOf, Adds, pairs_of};
 
 use crate::batch::put_all;
 use crate::body::Body;
-use crate::choices::Choice;
-use crate::definers::first;
-use crate::includes::misses;
-use crate::lineage::Up;
+use crate::component_table::ComponentAt;
+use crate::definers::first_definer;
+use crate::includes::has_missing_include;
+use crate::roots::Parent;
 use crate::link::link;
-use crate::names::resolve;
-use crate::table::{Table, Targets};
+use crate::resolve::resolve;
+use crate::body_table::{BodyTable, Targets};
 use crate::template::Template;
 use crate::variables::variables;
 use std::alloc::Global;
@@ -35,7 +35,7 @@ use tera_components::ComponentDefinition;
 use tera_errors::{Error, TeraResult};
 use tera_objects::Objects;
 use tera_syntax_tree::{Delimiters, ParserOutput};
-use tera_values::{Name, Sought};
+use tera_values::{Name, NameRef};
 
 /// Templates by name, and the prefixes by which a name is looked up that none of them has.
 pub struct Templates {
@@ -43,11 +43,11 @@ pub struct Templates {
     pub(crate) all: Vec<Rc<Template>>,
     pub(crate) prefixes: Vec<String>,
     /// What each extends, which is looked up when they are linked and never again.
-    ups: Vec<Up>,
+    ups: Vec<Parent>,
     roots: Vec<usize>,
-    pub(crate) choices: BTreeMap<String, Choice>,
+    pub(crate) choices: BTreeMap<String, ComponentAt>,
     /// All bodies, with what each include and each call of a component leads to, found once as well.
-    table: Table,
+    table: BodyTable,
     ghost rises: { Rises (entries_of all.items) } by { Rises-prop _ },
     ghost faultless: { first_fault (seen all.items prefixes.items) [] (entries_of all.items)
         ≡ None },
@@ -144,7 +144,7 @@ impl<'t> FoundTemplate<'t> {
             self.now.name.now block.now }
     {
         let templates: &'t Templates = self.templates;
-        let sought = Sought::new(block);
+        let sought = NameRef::new(block);
         templates.definers_from(templates.first_number(self.position, &sought))
     }
 }
@@ -217,7 +217,7 @@ impl Templates {
             ups: Vec::new(alloc),
             roots: Vec::new(alloc),
             choices: BTreeMap::new(alloc),
-            table: Table::new(alloc),
+            table: BodyTable::new(alloc),
         }
     }
 
@@ -317,14 +317,14 @@ impl Templates {
     }
 
     // The number of the body of the first of those who define a block, from a template on.
-    fn first_number(&self, from: usize, block: &Sought<'_>) -> Option<usize>
+    fn first_number(&self, from: usize, block: &NameRef<'_>) -> Option<usize>
         ghost registry: { Registry }
         requires registry { registry ≡ registry_in self.now }
         requires there { from < length self.now.all.items }
         ensures { (t : Entry) → slice_get registry.templates from ≡ Some t
             → result ≡ first_of (lineage registry block.now (t ∷ ancestors registry t)) }
     {
-        match first(self.all.as_slice(), self.ups.as_slice(), from, block) {
+        match first_definer(self.all.as_slice(), self.ups.as_slice(), from, block) {
             None => None,
             Some(at) => Some(self.number(at.template, 1 + at.block)),
         }
@@ -381,7 +381,7 @@ impl Templates {
     }
 
     // The component of which this is taken.
-    pub(crate) fn defined_at(&self, choice: Choice) -> Defined<'_>
+    pub(crate) fn defined_at(&self, choice: ComponentAt) -> Defined<'_>
         requires { IsTaken self.now.choices choice }
         ensures templates { result.body.templates.now ≡ self.now }
         ensures defined { (r : Registry) (name : Name) → chosen self.now.choices name ≡ Some choice
@@ -417,11 +417,11 @@ impl Templates {
     }
 
     /// Whether a text includes what is not there. Takes no memory.
-    pub fn misses_an_include(&self, output: &ParserOutput<'_>) -> bool
+    pub fn has_missing_include(&self, output: &ParserOutput<'_>) -> bool
         ensures { (r : Registry) → result
             ≡ misses_an_include (with_templates r self.now) (tree_of output.now) }
     {
-        misses(output, self.all.as_slice(), self.prefixes.as_slice())
+        has_missing_include(output, self.all.as_slice(), self.prefixes.as_slice())
     }
 
     /// The names of the templates, in byte order.

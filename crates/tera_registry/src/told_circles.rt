@@ -1,8 +1,8 @@
 // Why templates do not go together, in words.
 ghost use Rattle.std.specs.Prelude.{◌≡◌};
 
-use crate::circle::circle_of;
-use crate::lineage::Up;
+use crate::circle_search::circle_of;
+use crate::roots::Parent;
 use crate::priority::priority;
 use crate::template::Template;
 use crate::told_missing::add_templates;
@@ -16,11 +16,11 @@ const MOST: usize = 12;
 
 /// What templates are told of.
 #[derive(Clone, Copy)]
-struct Linked<'a> {
+struct LinkedTemplates<'a> {
     alloc: Global,
     templates: &'a [Rc<Template>],
     prefixes: &'a [String],
-    ups: &'a [Up],
+    ups: &'a [Parent],
     edges: &'a [Vec<usize>],
     /// The position of the first template that ties with one before it.
     tie: Option<usize>,
@@ -28,18 +28,18 @@ struct Linked<'a> {
 
 /// The same fault, in words that name the templates.
 #[inline(never)]
-pub(crate) fn in_words<'a>(
+pub(crate) fn fault_in_words<'a>(
     alloc: Global,
     templates: &'a [Rc<Template>],
     prefixes: &'a [String],
-    ups: &'a [Up],
+    ups: &'a [Parent],
     edges: &'a [Vec<usize>],
     tie: Option<usize>,
     fault: Error,
 ) -> Error
     ensures { result ≡ fault }
 {
-    let linked = Linked {
+    let linked = LinkedTemplates {
         alloc,
         templates,
         prefixes,
@@ -55,12 +55,12 @@ pub(crate) fn in_words<'a>(
         _ => Ok(None),
     };
     match words {
-        Ok(Some(words)) => fault.telling(alloc, words.as_str()),
+        Ok(Some(words)) => fault.with_message(alloc, words.as_str()),
         _ => fault,
     }
 }
 
-impl<'a> Linked<'a> {
+impl<'a> LinkedTemplates<'a> {
     fn name(&self, position: usize) -> &'a str {
         match self.templates.get(position) {
             Some(template) => template.name.as_str(),
@@ -71,7 +71,7 @@ impl<'a> Linked<'a> {
     // The first template that extends what is not there.
     fn orphan(&self) -> Result<Option<String>, AllocError> {
         for (position, up) in self.ups.iter().enumerate() {
-            if let Up::Missing = up {
+            if let Parent::Missing = up {
                 if let Some(template) = self.templates.get(position) {
                     return self.extends_nothing(template);
                 }
@@ -106,7 +106,7 @@ impl<'a> Linked<'a> {
         let mut parents = Vec::new(self.alloc);
         for up in self.ups.iter() {
             let mut above = Vec::new(self.alloc);
-            if let Up::At(position) = up {
+            if let Parent::At(position) = up {
                 above.push(*position)?;
             }
             parents.push(above)?;

@@ -5,15 +5,15 @@ ghost use Rattle.tera_meaning.specs.Prelude.{Registry};
 ghost use Rattle.tera_registry.specs.Definers.{Climbable};
 ghost use Rattle.tera_registry.specs.Kept.{Rises, entries_of};
 
-use crate::applied::named_at;
-use crate::choices::Choice;
+use crate::applications::position_of_name;
+use crate::component_table::ComponentAt;
 use crate::code::Code;
 use crate::components::Component;
-use crate::definers::first_above;
-use crate::known::is_known;
-use crate::lineage::Up;
-use crate::names::resolve;
-use crate::own::Own;
+use crate::definers::first_definer_above;
+use crate::missing_callees::is_known;
+use crate::roots::Parent;
+use crate::resolve::resolve;
+use crate::text_components::TextComponents;
 use crate::template::Template;
 use std::alloc::{AllocError, Global};
 use std::collections::BTreeMap;
@@ -29,12 +29,12 @@ const MOST_GUESSES: usize = 20;
 
 /// What names are looked up among.
 #[derive_where(Clone, Copy)]
-pub(crate) struct There<'a, O> {
+pub(crate) struct Inventory<'a, O> {
     pub(crate) alloc: Global,
     pub(crate) templates: &'a [Rc<Template>],
     pub(crate) prefixes: &'a [String],
-    pub(crate) choices: &'a BTreeMap<String, Choice>,
-    pub(crate) own: Option<Own<'a>>,
+    pub(crate) choices: &'a BTreeMap<String, ComponentAt>,
+    pub(crate) own: Option<TextComponents<'a>>,
     pub(crate) objects: &'a O,
 }
 
@@ -67,8 +67,8 @@ pub(crate) fn all_missing<'a, O: Objects>(
     alloc: Global,
     templates: &'a [Rc<Template>],
     prefixes: &'a [String],
-    ups: &[Up],
-    choices: &'a BTreeMap<String, Choice>,
+    ups: &[Parent],
+    choices: &'a BTreeMap<String, ComponentAt>,
     objects: &'a O,
 ) -> Error
     ghost registry: { Registry }
@@ -76,7 +76,7 @@ pub(crate) fn all_missing<'a, O: Objects>(
     requires climbable { Climbable registry templates.now ups.now }
     ensures { Tells result message }
 {
-    let there = There {
+    let there = Inventory {
         alloc,
         templates,
         prefixes,
@@ -95,7 +95,7 @@ pub(crate) fn all_missing<'a, O: Objects>(
 
 /// The same of a text beside the templates.
 pub(crate) fn all_missing_beside<O: Objects>(
-    there: There<'_, O>,
+    there: Inventory<'_, O>,
     text: NamedText<'_>,
     body: &Chunk,
 ) -> Error
@@ -109,9 +109,9 @@ pub(crate) fn all_missing_beside<O: Objects>(
     Error::message_from(Ok(missing.words))
 }
 
-impl<'a, O: Objects> There<'a, O> {
+impl<'a, O: Objects> Inventory<'a, O> {
     // Puts what the template at a position lacks.
-    fn put_template(&self, ups: &[Up], of: usize, missing: &mut Missing) -> Result<(), AllocError>
+    fn put_template(&self, ups: &[Parent], of: usize, missing: &mut Missing) -> Result<(), AllocError>
         ghost registry: { Registry }
         requires rises { Rises (entries_of self.now.templates.now) }
         requires climbable { Climbable registry self.now.templates.now ups.now }
@@ -156,7 +156,7 @@ impl<'a, O: Objects> There<'a, O> {
             let span = chunk.span_at(position);
             if let Some(callee) = chunk.callee_at(position) {
                 if !is_known(self.objects, self.choices, self.own, callee) {
-                    self.add_callee(callee, named(source, callee, span), missing)?;
+                    self.add_callee(callee, position_of_callee(source, callee, span), missing)?;
                 }
             }
             if let Some(Target::Template(name)) = chunk.target_at(position) {
@@ -186,7 +186,7 @@ impl<'a, O: Objects> There<'a, O> {
     }
 
     // Adds the blocks of a template, inside no other one, that no parent has.
-    fn add_blocks(&self, ups: &[Up], of: usize, missing: &mut Missing) -> Result<(), AllocError>
+    fn add_blocks(&self, ups: &[Parent], of: usize, missing: &mut Missing) -> Result<(), AllocError>
         ghost registry: { Registry }
         requires climbable { Climbable registry self.now.templates.now ups.now }
         requires there { of < length self.now.templates.now }
@@ -195,7 +195,7 @@ impl<'a, O: Objects> There<'a, O> {
         let code: &Code = &template.body;
         for position in 0..code.chunk.len() {
             if let Some((block, span)) = code.chunk.block_at(position) {
-                if first_above(self.templates, ups, of, &block.sought()).is_none() {
+                if first_definer_above(self.templates, ups, of, &block.as_name_ref()).is_none() {
                     self.add_block(block.as_str(), span, missing)?;
                 }
             }
@@ -305,7 +305,7 @@ impl Missing {
         let mut place = Place { line: 1, column: 1 };
         let mut from = 0;
         for lack in self.lacks.iter() {
-            place = place_behind(place, source, from..lack.at);
+            place = place_after(place, source, from..lack.at);
             from = lack.at;
             if !self.words.is_empty() {
                 self.words.push_str("\n")?;
@@ -329,7 +329,7 @@ fn start(span: Option<Span>) -> usize {
 }
 
 // Where a name is called: that of a filter or a test stands behind the operand, with which the span starts.
-fn named(source: &str, callee: Callee<'_>, span: Option<Span>) -> usize {
+fn position_of_callee(source: &str, callee: Callee<'_>, span: Option<Span>) -> usize {
     let start = start(span);
     let (Some(span), Callee::Filter(name) | Callee::Test(name)) = (span, callee) else {
         return start;
@@ -337,11 +337,11 @@ fn named(source: &str, callee: Callee<'_>, span: Option<Span>) -> usize {
     let Some(application) = source.get(span.start..span.end) else {
         return start;
     };
-    start.saturating_add(named_at(application, name).unwrap_or(0))
+    start.saturating_add(position_of_name(application, name).unwrap_or(0))
 }
 
 // The place of the end of a part of a text whose start is at this place.
-fn place_behind(place: Place, source: &str, part: Range<usize>) -> Place {
+fn place_after(place: Place, source: &str, part: Range<usize>) -> Place {
     let Some(part) = source.get(part) else {
         return place;
     };

@@ -10,8 +10,8 @@ ghost use Rattle.tera_registry.specs.Edges.{all_at, AreThere};
 ghost use Rattle.tera_registry.specs.Kept.{Rises, entry_of, entries_of, seen};
 ghost use Rattle.tera_registry.specs.Reached.{AreReached, Reaches, IsClosure, Uncircled};
 
-use crate::lineage::{Up, above};
-use crate::names::resolve;
+use crate::roots::{Parent, parent_of};
+use crate::resolve::resolve;
 use crate::template::Template;
 use std::alloc::{AllocError, Global};
 use std::collections::BTreeSet;
@@ -39,10 +39,10 @@ fn lineage(
     'up: loop {
         positions.push(last)?;
         let template: &Template = &templates[last];
-        match above(templates, prefixes, template) {
-            Up::At(next) => last = next,
-            Up::Nothing => return Ok(positions),
-            Up::Missing => return Ok(positions),
+        match parent_of(templates, prefixes, template) {
+            Parent::At(next) => last = next,
+            Parent::None => return Ok(positions),
+            Parent::Missing => return Ok(positions),
         }
     }
 }

@@ -4,7 +4,7 @@ use Rattle.std.proofs.Math.Seq.{get_or-append_seam, take-append_seam, drop-appen
 use Rattle.std.proofs.lemmas.Bool.{cases_Bool}
 use Rattle.std.proofs.lemmas.Str.{IsCharBoundary-start, IsCharBoundary-before_ascii}
 use Rattle.std.specs.Str.{IsUtf8, IsCharBoundary}
-use Rattle.tera_run_script.specs.declared.body.Body.{Body}
+use Rattle.tera_run_script.specs.declared.body.CommandBody.{CommandBody}
 use Rattle.std.proofs.lemmas.List.Splits.{join_with_byte-slice_split, slice_split_first}
 use Rattle.std.specs.List.{slice_split, join_with_byte, before_first, after_first, position_or_len}
 use Rattle.std.specs.Option.{option_map}
@@ -142,7 +142,7 @@ body_unended text after count p whole unlike =
     ∙ ap (option_map (λ body. p.front ++ body)) (last_unended after unlike)
 
 -- the body whose lines were passed
-pub body_ended : (text after : List ℕ) (count : ℕ) (rest : List ℕ) (body : Body) → Ended text after count rest → body.text.now ≡ take (length text - length after - 1) text → body.lines ≡ count + 1 → body.rest.now ≡ rest → IsBody text body
+pub body_ended : (text after : List ℕ) (count : ℕ) (rest : List ℕ) (body : CommandBody) → Ended text after count rest → body.text.now ≡ take (length text - length after - 1) text → body.lines ≡ count + 1 → body.rest.now ≡ rest → IsBody text body
 body_ended text after count rest body e cut lines follows =
     let p = e.passed in
     let all : lines_of text ≡ p.front ++ codes "@@ end" ∷ lines_of rest = lines_of-passed text after count p ∙ ap (λ lines. p.front ++ lines) e.last in

@@ -4,7 +4,7 @@ use Rattle.std.specs.List.{slice_split}
 use Rattle.tera.specs.Site.{Text}
 use Rattle.tera_run_script.specs.Lines.{is_line_feed, lines_of, joined}
 use Rattle.tera_run_script.specs.Script.{body_lines}
-use Rattle.tera_run_script.specs.declared.body.Body.{Body}
+use Rattle.tera_run_script.specs.declared.body.CommandBody.{CommandBody}
 
 -- the text begins with so many lines that end no body, and then comes the rest
 pub record Passed (text after : Text) (count : ℕ) : Type 0 where
@@ -21,7 +21,7 @@ pub record Ended (text after : Text) (count : ℕ) (rest : Text) : Type 0 where
   pub room : 1 + length rest ≤ length after
 
 -- the body that the text begins with
-pub record IsBody (text : Text) (body : Body) : Type 0 where
+pub record IsBody (text : Text) (body : CommandBody) : Type 0 where
   pub lines : List Text
   pub found : body_lines (lines_of text) ≡ Some lines
   pub is_text : body.text.now ≡ joined lines

@@ -7,10 +7,10 @@ use Rattle.tera.specs.Report.{Report}
 use Rattle.tera.specs.Site.{Site, Text}
 use Rattle.tera_run_script.specs.Act.{Act, act_of, acts_of}
 use Rattle.tera_run_script.specs.declared.command.Command.{Command}
-use Rattle.tera_run_script.specs.declared.script.Opening.{Opening}
-use Rattle.tera_run_script.specs.declared.script.Opening.TheVariants as opening
-use Rattle.tera_run_script.specs.declared.script.Head.{Head}
-use Rattle.tera_run_script.specs.declared.script.Head.TheVariants as head
+use Rattle.tera_run_script.specs.declared.script.CommandStart.{CommandStart}
+use Rattle.tera_run_script.specs.declared.script.CommandStart.TheVariants as opening
+use Rattle.tera_run_script.specs.declared.script.CommandLine.{CommandLine}
+use Rattle.tera_run_script.specs.declared.script.CommandLine.TheVariants as head
 use Rattle.tera_run_script.specs.declared.script.Script.{Script}
 use Rattle.tera_run_script.specs.Script as script
 use Rattle.tera_run_script.specs.Words.{words_after}
@@ -39,20 +39,20 @@ site_seen report = option_map (λ r. r.now.site) report
 abbrev pub act_seen : Option Command → Option Act
 act_seen found = option_map act_of found
 
-abbrev pub plain_opening : Opening → script.Opening
+abbrev pub plain_opening : CommandStart → script.Opening
 plain_opening (opening.Text name) = script.text_opening name.now
 plain_opening (opening.Safe name) = script.safe_opening name.now
 plain_opening (opening.Str autoescape) = script.str_opening autoescape
 plain_opening (opening.Template name) = script.template_opening name.now
 
-abbrev pub opening_seen : Option Opening → Option script.Opening
+abbrev pub opening_seen : Option CommandStart → Option script.Opening
 opening_seen found = option_map plain_opening found
 
-abbrev pub plain_head : Head → script.Head
+abbrev pub plain_head : CommandLine → script.Head
 plain_head (head.Alone command) = script.alone (act_of command)
 plain_head (head.Opens opened) = script.opens (plain_opening opened)
 
-abbrev pub head_seen : Option Head → Option script.Head
+abbrev pub head_seen : Option CommandLine → Option script.Head
 head_seen found = option_map plain_head found
 
 abbrev pub script_seen : Script → script.Script

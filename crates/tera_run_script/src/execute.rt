@@ -64,7 +64,7 @@ fn reply_to<'a, O: Objects>(
         Command::Str { autoescape, body } => {
             text_reply(engine.render_str(body, context, *autoescape))
         }
-        Command::Template { name, body } => done_reply(join(&mut session.batch, name, body)),
+        Command::Template { name, body } => done_reply(add_to_batch(&mut session.batch, name, body)),
         Command::Add => done_reply(add(engine, &mut session.batch)),
         Command::Suffix { suffixes } => done_reply(engine.autoescape_on(suffixes.as_slice())),
         Command::Prefix { prefixes } => {
@@ -78,7 +78,7 @@ fn reply_to<'a, O: Objects>(
             implicits,
         } => {
             let implicits = implicits.as_slice();
-            text_reply(component(engine, context, name, *autoescape, implicits))
+            text_reply(render_component(engine, context, name, *autoescape, implicits))
         }
         Command::Preview { autoescape } => {
             text_reply(preview(alloc, engine, context, *autoescape))
@@ -107,7 +107,7 @@ fn text_reply(answer: TeraResult<String>) -> Reply
 }
 
 // The text of a component: entries of the context with one of these names are implicits, and all others arguments.
-fn component<O: Objects>(
+fn render_component<O: Objects>(
     engine: &TeraOver<O>,
     context: &Context,
     name: &str,
@@ -144,7 +144,7 @@ fn put_text(
 }
 
 // Lets a template wait.
-fn join<'a>(batch: &mut Vec<(&'a str, &'a str)>, name: &'a str, body: &'a str) -> TeraResult<()>
+fn add_to_batch<'a>(batch: &mut Vec<(&'a str, &'a str)>, name: &'a str, body: &'a str) -> TeraResult<()>
     ensures ok { OnOk result
         (pairs_of batch.new.items ≡ pairs_of batch.old.items ++ (name.now, body.now) ∷ []) }
     ensures err { IfErr result (λ e. Lacks e) }

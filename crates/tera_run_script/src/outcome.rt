@@ -3,7 +3,7 @@ ghost use Rattle.std.specs.Prelude.{◌≡◌};
 ghost use Rattle.tera_run_script.specs.Device.{ToDevice};
 ghost use Rattle.tera_run_script.specs.Run.{status_of, Complains};
 
-use crate::output::put;
+use crate::output::write_and_flush;
 use crate::stream::Output;
 use itoa::Buffer;
 
@@ -43,7 +43,7 @@ pub fn complaint<W: Output>(outcome: &Outcome, writer: &mut W)
 {
     if let Outcome::Unreadable(line) = outcome {
         let mut number = Buffer::new();
-        let _ = put(
+        let _ = write_and_flush(
             writer,
             &[
                 b"unreadable command at line ",

@@ -31,7 +31,7 @@ pub fn write_pieces<W: Output>(writer: &mut W, pieces: &[&[u8]]) -> Result<(), F
 }
 
 /// Writes the pieces in order, and has them handed on, unless the output fails.
-pub fn put<W: Output>(writer: &mut W, pieces: &[&[u8]]) -> Result<(), Failure>
+pub fn write_and_flush<W: Output>(writer: &mut W, pieces: &[&[u8]]) -> Result<(), Failure>
     ensures written { Writes W.passed W.contents writer.old writer.new
         (flat_map (λ piece. piece.now) pieces.now) result }
     ensures settled { OnOk result (W.settled writer.new) }

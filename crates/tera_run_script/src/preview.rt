@@ -40,7 +40,7 @@ fn arguments<O: Objects>(
 }
 
 // The name of a component, and then its text or its fault.
-fn shown<O: Objects>(
+fn show<O: Objects>(
     alloc: Global,
     engine: &TeraOver<O>,
     context: &Context,
@@ -63,7 +63,7 @@ fn shown<O: Objects>(
 }
 
 // What is shown of each of these components.
-fn all_shown<O: Objects>(
+fn show_all<O: Objects>(
     alloc: Global,
     engine: &TeraOver<O>,
     context: &Context,
@@ -76,7 +76,7 @@ fn all_shown<O: Objects>(
 {
     let mut texts = Vec::with_capacity(alloc, names.len())?;
     for name in names {
-        texts.push(shown(alloc, engine, context, autoescape, name.as_str())?)?;
+        texts.push(show(alloc, engine, context, autoescape, name.as_str())?)?;
     }
     Ok(texts)
 }
@@ -92,6 +92,6 @@ pub fn preview<O: Objects>(
         (Previews (registry_of O.engine engine.now) context.now autoescape) }
 {
     let names = engine.get_component_names()?;
-    let texts = all_shown(alloc, engine, context, autoescape, names.as_slice())?;
+    let texts = show_all(alloc, engine, context, autoescape, names.as_slice())?;
     Ok(texts.join(alloc, "\n")?)
 }

@@ -22,7 +22,7 @@ pub struct Script<'a> {
 
 /// What a command line says whose body follows.
 #[derive(Clone, Copy)]
-pub enum Opening<'a> {
+pub enum CommandStart<'a> {
     Text(&'a str),
     Safe(&'a str),
     Str(bool),
@@ -31,9 +31,9 @@ pub enum Opening<'a> {
 
 /// What a command line says: a command by itself, or one whose body follows.
 #[derive(Drop)]
-pub enum Head<'a> {
+pub enum CommandLine<'a> {
     Alone(Command<'a>),
-    Opens(Opening<'a>),
+    Opens(CommandStart<'a>),
 }
 
 /// What a text spells, if it spells it. An error says that it found no room.
@@ -138,7 +138,7 @@ fn add_of(fields: Option<&str>) -> Option<Command<'static>>
 }
 
 // `suffix`, or else `prefix`, with any number of fields.
-fn listed<'a>(alloc: Global, is_suffix: bool, fields: Option<&'a str>) -> Spelled<Command<'a>>
+fn list_of<'a>(alloc: Global, is_suffix: bool, fields: Option<&'a str>) -> Spelled<Command<'a>>
     ensures { IfOk result (λ found. act_seen found ≡ listed is_suffix (words_after fields.entry)) }
 {
     match checked_fields(alloc, fields)? {
@@ -206,15 +206,15 @@ fn preview_of(fields: Option<&str>) -> Option<Command<'static>>
 }
 
 // The word of a command with a body, and its field.
-fn opening_named<'a>(word: &str, fields: Option<&'a str>) -> Option<Opening<'a>>
+fn opening_named<'a>(word: &str, fields: Option<&'a str>) -> Option<CommandStart<'a>>
     ensures { opening_seen result ≡ opening_named word.now (words_after fields.entry) }
 {
     let field = only_field(fields)?;
     match word {
-        "text" => Some(Opening::Text(field)),
-        "safe" => Some(Opening::Safe(field)),
-        "str" => Some(Opening::Str(switch(field)?)),
-        "template" => Some(Opening::Template(field)),
+        "text" => Some(CommandStart::Text(field)),
+        "safe" => Some(CommandStart::Safe(field)),
+        "str" => Some(CommandStart::Str(switch(field)?)),
+        "template" => Some(CommandStart::Template(field)),
         _ => None,
     }
 }
@@ -227,8 +227,8 @@ fn command_named<'a>(alloc: Global, word: &str, fields: Option<&'a str>) -> Spel
     match word {
         "int" => Ok(int_of(fields)),
         "add" => Ok(add_of(fields)),
-        "suffix" => listed(alloc, true, fields),
-        "prefix" => listed(alloc, false, fields),
+        "suffix" => list_of(alloc, true, fields),
+        "prefix" => list_of(alloc, false, fields),
         "render" => Ok(render_of(fields)),
         "block" => Ok(block_of(fields)),
         "component" => component_of(alloc, fields),
@@ -237,20 +237,20 @@ fn command_named<'a>(alloc: Global, word: &str, fields: Option<&'a str>) -> Spel
     }
 }
 
-fn head_named<'a>(alloc: Global, word: &str, fields: Option<&'a str>) -> Spelled<Head<'a>>
+fn head_named<'a>(alloc: Global, word: &str, fields: Option<&'a str>) -> Spelled<CommandLine<'a>>
     ensures { IfOk result (λ found.
         head_seen found ≡ head_named word.now (words_after fields.entry)) }
 {
     if let Some(opening) = opening_named(word, fields) {
-        return Ok(Some(Head::Opens(opening)));
+        return Ok(Some(CommandLine::Opens(opening)));
     }
     match command_named(alloc, word, fields)? {
-        Some(command) => Ok(Some(Head::Alone(command))),
+        Some(command) => Ok(Some(CommandLine::Alone(command))),
         None => Ok(None),
     }
 }
 
-fn head_of(alloc: Global, line: &str) -> Spelled<Head<'_>>
+fn head_of(alloc: Global, line: &str) -> Spelled<CommandLine<'_>>
     ensures { IfOk result (λ found. head_seen found ≡ head_of line.now) }
 {
     if !is_plain(line) {
@@ -266,14 +266,14 @@ fn head_of(alloc: Global, line: &str) -> Spelled<Head<'_>>
     }
 }
 
-fn with_body<'a>(opening: Opening<'a>, body: &'a str) -> Command<'a>
+fn with_body<'a>(opening: CommandStart<'a>, body: &'a str) -> Command<'a>
     ensures { act_of result ≡ with_body (plain_opening opening.entry) body.now }
 {
     match opening {
-        Opening::Text(name) => Command::Text { name, body },
-        Opening::Safe(name) => Command::Safe { name, body },
-        Opening::Str(autoescape) => Command::Str { autoescape, body },
-        Opening::Template(name) => Command::Template { name, body },
+        CommandStart::Text(name) => Command::Text { name, body },
+        CommandStart::Safe(name) => Command::Safe { name, body },
+        CommandStart::Str(autoescape) => Command::Str { autoescape, body },
+        CommandStart::Template(name) => Command::Template { name, body },
     }
 }
 
@@ -291,12 +291,12 @@ fn command_at<'a>(alloc: Global, line: &'a str, after: &'a str) -> Spelled<Found
 {
     match head_of(alloc, line)? {
         None => Ok(None),
-        Some(Head::Alone(command)) => Ok(Some(FoundCommand {
+        Some(CommandLine::Alone(command)) => Ok(Some(FoundCommand {
             command,
             lines: 0,
             rest: after,
         })),
-        Some(Head::Opens(opening)) => match first_body(after) {
+        Some(CommandLine::Opens(opening)) => match first_body(after) {
             Some(body) => Ok(Some(FoundCommand {
                 command: with_body(opening, body.text),
                 lines: body.lines,

@@ -70,7 +70,7 @@ impl<R: Read> Input for Standard<R> {
 
     fn read(&mut self, buffer: &mut [u8]) -> Result<usize, Failure> {
         uninterrupted!(self.device.read(buffer), taken => {
-            self.trace = Trace::with(&self.trace, &buffer[..taken], 0);
+            self.trace = Trace::with_piece(&self.trace, &buffer[..taken], 0);
             self.is_settled = taken == 0 && !buffer.is_empty();
             return Ok(taken);
         });
@@ -91,7 +91,7 @@ impl<W: Write> Output for Standard<W> {
             if taken == 0 && !piece.is_empty() {
                 break;
             }
-            self.trace = Trace::with(&self.trace, &piece[..taken], 0);
+            self.trace = Trace::with_piece(&self.trace, &piece[..taken], 0);
             return Ok(taken);
         });
         Err(self.trace.fail())

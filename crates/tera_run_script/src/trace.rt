@@ -26,7 +26,7 @@ impl Trace {
     }
 
     /// A piece more, and so many failures more.
-    pub fn with(before: &Trace, piece: &[u8], failures: usize) -> Trace
+    pub fn with_piece(before: &Trace, piece: &[u8], failures: usize) -> Trace
         ensures { (result.bytes ≡ before.now.bytes ++ piece.now)
             × (result.failures ≡ before.now.failures + failures) }
     {
@@ -38,7 +38,7 @@ impl Trace {
         ensures { (self.new.bytes ≡ self.old.bytes)
             × (self.new.failures ≡ self.old.failures + 1) }
     {
-        *self = Trace::with(self, &[], 1);
+        *self = Trace::with_piece(self, &[], 1);
         Failure
     }
 }

@@ -6,29 +6,29 @@ use Rattle.tera_errors.specs.Site.{Name}
 use Rattle.tera_values.specs.Val.{Val, undefined}
 use Rattle.tera_values.specs.Access.{is_undefined}
 use Rattle.tera_values.specs.Named.{Named, at_name}
-use Rattle.tera_state.specs.Found.{found_value}
+use Rattle.tera_state.specs.FoundValue.{found_value}
 use Rattle.tera_state.specs.Scope.{Variables, Turn, in_turn, in_turns, in_innermost, bound, bound_above, defined, handed_down, outermost, in_variables, nothing_set, Frame as FrameMeant}
 use Rattle.tera_state.specs.Bound.{layer_of}
 use Rattle.tera_state.specs.Opened.{turns_of}
 use Rattle.tera_state.specs.Stack.{lower}
 use Rattle.tera_state.specs.Scopes.{context_of, frame_of, above_of, variables_at, handed_at}
 use Rattle.tera_state.specs.declared.bindings.Binding.{Binding}
-use Rattle.tera_state.specs.declared.found.Found.{Found}
-use Rattle.tera_state.specs.declared.found.Found.TheVariants as found
+use Rattle.tera_state.specs.declared.found_value.FoundValue.{FoundValue}
+use Rattle.tera_state.specs.declared.found_value.FoundValue.TheVariants as found
 use Rattle.tera_state.specs.declared.frame.Frame.{Frame}
 use Rattle.tera_state.specs.declared.scopes.Scopes.{Scopes}
 use Rattle.tera_state.specs.declared.loops.ForLoop.{ForLoop}
-use Rattle.tera_state.specs.declared.frame.Standing.{Standing}
-use Rattle.tera_state.specs.declared.frame.Standing.TheVariants as standing
+use Rattle.tera_state.specs.declared.frame.FrameKind.{FrameKind}
+use Rattle.tera_state.specs.declared.frame.FrameKind.TheVariants as standing
 use Rattle.tera_state.proofs.Finds.{first, second, lower_at, lower_length, lower_none}
 
-pub kept_first : (r : Found) (a b : Option Val) → (r ≡ found.Nothing → ⊥) → found_value r ≡ a → found_value r ≡ option_or a b
+pub kept_first : (r : FoundValue) (a b : Option Val) → (r ≡ found.Unbound → ⊥) → found_value r ≡ a → found_value r ≡ option_or a b
 kept_first (found.Kept v) a b n e = first _ a b e _ refl
 kept_first (found.Key k) a b n e = first _ a b e _ refl
 kept_first (found.Number z) a b n e = first _ a b e _ refl
-kept_first (found.After z) a b n e = first _ a b e _ refl
+kept_first (found.Index1 z) a b n e = first _ a b e _ refl
 kept_first (found.Flag t) a b n e = first _ a b e _ refl
-kept_first found.Nothing a b n e = absurd (n refl)
+kept_first found.Unbound a b n e = absurd (n refl)
 
 or_none : (a : Option Val) → option_or a None ≡ a
 or_none None = refl
@@ -43,11 +43,11 @@ bound_split n f [] v = refl
 bound_split n f (u ∷ us) v = refl
 
 -- what the innermost turn binds is what the body binds
-turn_first : (r : Found) (n : Name) (ts : List Turn) → (r ≡ found.Nothing → ⊥) → found_value r ≡ in_innermost n ts → found_value r ≡ in_turns n ts
+turn_first : (r : FoundValue) (n : Name) (ts : List Turn) → (r ≡ found.Unbound → ⊥) → found_value r ≡ in_innermost n ts → found_value r ≡ in_turns n ts
 turn_first r n [] some e = e
 turn_first r n (t ∷ ts) some e = kept_first r (in_turn n t) (in_turns n ts) some e
 
-pub innermost_first : (r : Found) (n : Name) (f : FrameMeant) (us : List (FrameMeant × Variables)) (v : Variables) → (r ≡ found.Nothing → ⊥) → found_value r ≡ in_innermost n v.turns → found_value r ≡ bound n f us v
+pub innermost_first : (r : FoundValue) (n : Name) (f : FrameMeant) (us : List (FrameMeant × Variables)) (v : Variables) → (r ≡ found.Unbound → ⊥) → found_value r ≡ in_innermost n v.turns → found_value r ≡ bound n f us v
 innermost_first r n f us v some e =
     kept_first r _ _ some (kept_first r _ _ some (turn_first r n v.turns some e)) ∙ sym (bound_split n f us v)
 
@@ -68,21 +68,21 @@ innermost_lent None now n f us v h = tt
 innermost_lent (Some b) now n f us v h = ap (λ (o : Option Val). unwrap_or o undefined) (innermost_bound n f us v (now b) h)
 
 module _ (n : Name) (bs : List Binding) where
-  abbrev pub at : Standing → List Frame → Option Val
+  abbrev pub at : FrameKind → List Frame → Option Val
   at s fs = beyond n (frame_of s fs) (above_of bs fs)
 
-  pub whole_beyond : (s : Standing) (c : Named Val × Named Val) (fs : List Frame) → s ≡ standing.Whole c → at s fs ≡ option_or (at_name n c.0) (at_name n c.1)
-  whole_beyond s c [] e = ap (λ (t : Standing). at t []) e
-  whole_beyond s c (f ∷ fs) e = ap (λ (t : Standing). at t (f ∷ fs)) e
+  pub whole_beyond : (s : FrameKind) (c : Named Val × Named Val) (fs : List Frame) → s ≡ standing.Template c → at s fs ≡ option_or (at_name n c.0) (at_name n c.1)
+  whole_beyond s c [] e = ap (λ (t : FrameKind). at t []) e
+  whole_beyond s c (f ∷ fs) e = ap (λ (t : FrameKind). at t (f ∷ fs)) e
 
-  pub called_beyond : (s : Standing) (context : Named Val) (fs : List Frame) → s ≡ standing.Called context → at s fs ≡ at_name n context
-  called_beyond s context [] e = ap (λ (t : Standing). at t []) e ∙ or_none (at_name n context)
-  called_beyond s context (f ∷ fs) e = ap (λ (t : Standing). at t (f ∷ fs)) e ∙ or_none (at_name n context)
+  pub called_beyond : (s : FrameKind) (context : Named Val) (fs : List Frame) → s ≡ standing.Component context → at s fs ≡ at_name n context
+  called_beyond s context [] e = ap (λ (t : FrameKind). at t []) e ∙ or_none (at_name n context)
+  called_beyond s context (f ∷ fs) e = ap (λ (t : FrameKind). at t (f ∷ fs)) e ∙ or_none (at_name n context)
 
   abbrev of_includer : Frame → List Frame → ℕ → Option Val
   of_includer f fs k = bound n (frame_of f.standing fs) (above_of bs fs) (variables_at bs k f)
 
-  pub included_beyond : (s : Standing) (f : Frame) (gs fs : List Frame) (k : ℕ) → s ≡ standing.Included → gs ≡ f ∷ fs → length fs ≡ k → at s gs ≡ option_or (defined (of_includer f fs k)) (at_name n (context_of f.standing fs))
+  pub included_beyond : (s : FrameKind) (f : Frame) (gs fs : List Frame) (k : ℕ) → s ≡ standing.Include → gs ≡ f ∷ fs → length fs ≡ k → at s gs ≡ option_or (defined (of_includer f fs k)) (at_name n (context_of f.standing fs))
   included_beyond s f gs fs k e g ek =
       ap₂ at e g
       ∙ ap₂ (λ (j : ℕ) (o : Option Val). option_or (defined (of_includer f fs j)) o) ek (or_none (at_name n (context_of f.standing fs)))
@@ -131,9 +131,9 @@ twice_all (Some v) c = twice (is_undefined v) v c refl
 
 module _ (n : Name) (bs : List Binding) where
   abbrev pub passed : List Frame → Option Val
-  passed fs = at n bs standing.Included fs
+  passed fs = at n bs standing.Include fs
 
-  passed_own : (fs : List Frame) → option_or (defined (passed fs)) (at_name n (context_of standing.Included fs)) ≡ passed fs
+  passed_own : (fs : List Frame) → option_or (defined (passed fs)) (at_name n (context_of standing.Include fs)) ≡ passed fs
   passed_own [] = refl
   passed_own (f ∷ fs) =
       let c = at_name n (context_of f.standing fs) in
@@ -141,23 +141,23 @@ module _ (n : Name) (bs : List Binding) where
       ap (λ (x : Option Val). option_or (defined (option_or (defined o) x)) c) (or_none c) ∙ twice_all o c ∙ ap (λ (x : Option Val). option_or (defined o) x) (sym (or_none c))
 
   -- an include that binds nothing of the name passes it on
-  pub pass_on : (f : Frame) (gs fs : List Frame) (k : ℕ) → gs ≡ f ∷ fs → length fs ≡ k → f.standing ≡ standing.Included → in_variables n (variables_at bs k f) ≡ None → passed gs ≡ passed fs
+  pub pass_on : (f : Frame) (gs fs : List Frame) (k : ℕ) → gs ≡ f ∷ fs → length fs ≡ k → f.standing ≡ standing.Include → in_variables n (variables_at bs k f) ≡ None → passed gs ≡ passed fs
   pass_on f gs fs k g ek is none =
-      included_beyond n bs standing.Included f gs fs k refl g ek
+      included_beyond n bs standing.Include f gs fs k refl g ek
       ∙ ap (λ (x : Option Val). option_or (defined x) (at_name n (context_of f.standing fs))) (sym (from_beyond n bs k f fs (at n bs f.standing fs) (sym none) refl))
-      ∙ ap (λ (s : Standing). option_or (defined (at n bs s fs)) (at_name n (context_of s fs))) is
+      ∙ ap (λ (s : FrameKind). option_or (defined (at n bs s fs)) (at_name n (context_of s fs))) is
       ∙ passed_own fs
 
 pub handed-is : (s : Scopes) (k : ℕ) (n : Name) → handed_at s k n ≡ passed n s.bindings (lower k s.below)
 handed-is s k n =
-    bound_split n (frame_of standing.Included (lower k s.below)) (above_of s.bindings (lower k s.below)) nothing_set
+    bound_split n (frame_of standing.Include (lower k s.below)) (above_of s.bindings (lower k s.below)) nothing_set
 
 pub handed-none : (s : Scopes) (n : Name) → None ≡ handed_at s 0 n
 handed-none s n = ap (passed n s.bindings) (sym (lower_none s.below)) ∙ sym (handed-is s 0 n)
 
 -- The includer stands below so many frames, and o is what that one has.
 module _ (n : Name) (bs : List Binding) (below : List Frame) (k : ℕ) (f : Frame) (some : 0 < k) (le : k ≤ length below) (there : slice_get (reverse below) (k - 1) ≡ Some f) where
-  pub pass_down : f.standing ≡ standing.Included → in_variables n (variables_at bs (k - 1) f) ≡ None → passed n bs (lower k below) ≡ passed n bs (lower (k - 1) below)
+  pub pass_down : f.standing ≡ standing.Include → in_variables n (variables_at bs (k - 1) f) ≡ None → passed n bs (lower k below) ≡ passed n bs (lower (k - 1) below)
   pass_down is none =
       let less : k - 1 ≤ length below = omega (arith, le) in
       pass_on n bs f (lower k below) (lower (k - 1) below) (k - 1) (lower_at below k f some there) (lower_length below (k - 1) less) is none
@@ -171,7 +171,7 @@ module _ (n : Name) (bs : List Binding) (below : List Frame) (k : ℕ) (f : Fram
         let less : k - 1 ≤ length below = omega (arith, le) in
         ex
         ∙ ap (λ (p : Option Val). option_or (defined p) own) e
-        ∙ sym (included_beyond n bs standing.Included f (lower k below) (lower (k - 1) below) (k - 1) refl (lower_at below k f some there) (lower_length below (k - 1) less))
+        ∙ sym (included_beyond n bs standing.Include f (lower k below) (lower (k - 1) below) (k - 1) refl (lower_at below k f some there) (lower_length below (k - 1) less))
 
     pub from_context : (x : Option Val) → is_undefined (unwrap_or o undefined) ≡ true → x ≡ own → x ≡ passed n bs (lower k below)
     from_context x u ex = to_includer x (handed_none o own x u ex)

@@ -13,8 +13,8 @@ use Rattle.tera_state.specs.Scopes.{context_of}
 use Rattle.tera_state.specs.declared.bindings.Binding.{Binding}
 use Rattle.tera_state.specs.declared.loops.ForLoop.{ForLoop}
 use Rattle.tera_state.specs.declared.frame.Frame.{Frame}
-use Rattle.tera_state.specs.declared.frame.Standing.{Standing}
-use Rattle.tera_state.specs.declared.frame.Standing.TheVariants as standing
+use Rattle.tera_state.specs.declared.frame.FrameKind.{FrameKind}
+use Rattle.tera_state.specs.declared.frame.FrameKind.TheVariants as standing
 
 pub first : (x a b : Option Val) → x ≡ a → (v : Val) → x ≡ Some v → x ≡ option_or a b
 first x a b e v h = h ∙ ap (λ (y : Option Val). option_or y b) (sym h ∙ e)
@@ -59,13 +59,13 @@ turns_step bs f ls k l lt le h =
     ap (turns_of bs f) (lower_at ls k l lt h) ∙ ap (λ (j : ℕ). turn_of (layer_of bs f j) l ∷ turns_of bs f (lower (k - 1) ls)) size
 
 -- the context of a body
-pub whole_context : (s : Standing) (c : Named Val × Named Val) (fs : List Frame) → s ≡ standing.Whole c → context_of s fs ≡ c.0
-whole_context s c [] e = ap (λ (t : Standing). context_of t []) e
-whole_context s c (f ∷ fs) e = ap (λ (t : Standing). context_of t (f ∷ fs)) e
+pub whole_context : (s : FrameKind) (c : Named Val × Named Val) (fs : List Frame) → s ≡ standing.Template c → context_of s fs ≡ c.0
+whole_context s c [] e = ap (λ (t : FrameKind). context_of t []) e
+whole_context s c (f ∷ fs) e = ap (λ (t : FrameKind). context_of t (f ∷ fs)) e
 
-pub called_context : (s : Standing) (context : Named Val) (fs : List Frame) → s ≡ standing.Called context → context_of s fs ≡ context
-called_context s context [] e = ap (λ (t : Standing). context_of t []) e
-called_context s context (f ∷ fs) e = ap (λ (t : Standing). context_of t (f ∷ fs)) e
+pub called_context : (s : FrameKind) (context : Named Val) (fs : List Frame) → s ≡ standing.Component context → context_of s fs ≡ context
+called_context s context [] e = ap (λ (t : FrameKind). context_of t []) e
+called_context s context (f ∷ fs) e = ap (λ (t : FrameKind). context_of t (f ∷ fs)) e
 
-pub included_context : (s : Standing) (f : Frame) (fs gs : List Frame) → s ≡ standing.Included → gs ≡ f ∷ fs → context_of s gs ≡ context_of f.standing fs
-included_context s f fs gs e g = ap₂ (λ (t : Standing) (hs : List Frame). context_of t hs) e g
+pub included_context : (s : FrameKind) (f : Frame) (fs gs : List Frame) → s ≡ standing.Include → gs ≡ f ∷ fs → context_of s gs ≡ context_of f.standing fs
+included_context s f fs gs e g = ap₂ (λ (t : FrameKind) (hs : List Frame). context_of t hs) e g

@@ -16,7 +16,7 @@ use Rattle.tera_state.specs.Scope.{Around, Bindings, Frame, Kind, whole, include
 use Rattle.tera_state.specs.Scopes.{around_of, variables_of}
 use Rattle.tera_state.specs.FoundNames.{names_in, turn_names, variable_names, frame_names, body_names, bound_names, found_among, IsMapOf}
 use Rattle.tera_state.specs.View.{look_in_source, StateNamesAreAMap}
-use Rattle.tera_state.specs.declared.state.Source.TheVariants.{Alone, Open}
+use Rattle.tera_state.specs.declared.state.StateSource.TheVariants.{Context, Scopes}
 
 -- whether a name is among some
 abbrev is_among : Name → List Name → Bool

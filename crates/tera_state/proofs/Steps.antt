@@ -9,7 +9,7 @@ use Rattle.tera_state.specs.Scopes.{begun, variables_at, variables_of, around_of
 use Rattle.tera_state.specs.declared.bindings.Binding.{Binding}
 use Rattle.tera_state.specs.declared.loops.ForLoop.{ForLoop}
 use Rattle.tera_state.specs.declared.frame.Frame.{Frame}
-use Rattle.tera_state.specs.declared.frame.Standing.{Standing}
+use Rattle.tera_state.specs.declared.frame.FrameKind.{FrameKind}
 use Rattle.tera_state.specs.declared.scopes.Scopes.{Scopes}
 use Rattle.tera_state.proofs.Layers.{variables_same, above_same, set_law, open_law, close_law, bind_above, without_above, frame_above, frame_there, set_global_law}
 
@@ -116,11 +116,11 @@ pub frames_stay : (old bs : List Binding) (below more : List Frame) → below �
 frames_stay old bs below more e made = ap₂ above_of made e ∙ frame_above old more
 
 module _ {E : Type 0} where
-  pub begins : (old new : Scopes) (st : Standing) (r : Result (Unit {0}) E) → OnOk r (new.frame ≡ begun st) → OnOk r (new.below ≡ old.frame ∷ old.below) → OnOk r (new.bindings ≡ without_frame old.bindings (suc (length old.below))) → OnOk r (variables_of new ≡ nothing_set)
+  pub begins : (old new : Scopes) (st : FrameKind) (r : Result (Unit {0}) E) → OnOk r (new.frame ≡ begun st) → OnOk r (new.below ≡ old.frame ∷ old.below) → OnOk r (new.bindings ≡ without_frame old.bindings (suc (length old.below))) → OnOk r (variables_of new ≡ nothing_set)
   begins old new st (Ok x) fr be bs = ap₂ (λ (k : ℕ) (f : Frame). variables_at new.bindings k f) (ap length be) fr ∙ ap (λ (b : List Binding). record { turns = []; sets = layer_of b (suc (length old.below)) 0 }) bs ∙ begins_with_nothing old.bindings (suc (length old.below))
   begins old new st (Err e) fr be bs = tt
 
-  pub begins_under : (old new : Scopes) (st : Standing) (r : Result (Unit {0}) E) → OnOk r (new.frame ≡ begun st) → OnOk r (new.below ≡ old.frame ∷ old.below) → OnOk r (new.bindings ≡ without_frame old.bindings (suc (length old.below))) → OnOk r (◌≡◌ {A = Around} (around_of new) (record { frame = frame_of st (old.frame ∷ old.below); above = above_of old.bindings (old.frame ∷ old.below) }))
+  pub begins_under : (old new : Scopes) (st : FrameKind) (r : Result (Unit {0}) E) → OnOk r (new.frame ≡ begun st) → OnOk r (new.below ≡ old.frame ∷ old.below) → OnOk r (new.bindings ≡ without_frame old.bindings (suc (length old.below))) → OnOk r (◌≡◌ {A = Around} (around_of new) (record { frame = frame_of st (old.frame ∷ old.below); above = above_of old.bindings (old.frame ∷ old.below) }))
   begins_under old new st (Ok x) fr be bs =
       ap₂ (λ (fm : FrameMeant) (us : List (FrameMeant × Variables)). record { frame = fm; above = us })
       (ap₂ (λ (f : Frame) (gs : List Frame). frame_of f.standing gs) fr be)

@@ -4,7 +4,7 @@ use Rattle.std.specs.Prelude.{slice_get, pos, unwrap_or}
 use Rattle.std.proofs.lemmas.List.{length-map}
 use Rattle.tera_values.specs.Val.{Val, KeyVal, undefined, array, bytes, int, vals, list_of, map as map_of, entries}
 use Rattle.tera_values.specs.Access.{pairs}
-use Rattle.tera_state.specs.Found.{key_as_value}
+use Rattle.tera_state.specs.FoundValue.{key_as_value}
 use Rattle.tera_state.specs.Items.{Item, unkeyed}
 use Rattle.tera_state.specs.Scope.{Heading, turn, turns_from}
 use Rattle.tera_state.specs.Opened.{walked, value_at, key_at, items_of, turn_of, to_come, heading_of, names_of}

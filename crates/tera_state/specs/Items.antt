@@ -4,7 +4,7 @@ use Rattle.unicode_segmentation.specs.Grapheme.{graphemes}
 use Rattle.tera_values.specs.Alphabet.{Alphabet, plain, made}
 use Rattle.tera_values.specs.Val.{Val, ValOf, int, text, bytes, array, map as map_of, list_of}
 use Rattle.tera_values.specs.Access.{pairs}
-use Rattle.tera_state.specs.Found.{key_as_value_in}
+use Rattle.tera_state.specs.FoundValue.{key_as_value_in}
 
 -- an item, with its key in a map
 abbrev pub ItemOf : Type 0 → Type 0

@@ -1,14 +1,14 @@
 -- What an iterator over a loop's items lends.
 use Rattle.std.specs.Prelude.{List, drop, unwrap_or}
 use Rattle.tera_values.specs.Val.{undefined}
-use Rattle.tera_state.specs.Found.{found_value}
+use Rattle.tera_state.specs.FoundValue.{found_value}
 use Rattle.tera_state.specs.Items.{Item}
 use Rattle.tera_state.specs.Opened.{walked}
-use Rattle.tera_state.specs.declared.found.Found.{Found}
+use Rattle.tera_state.specs.declared.found_value.FoundValue.{FoundValue}
 use Rattle.tera_state.specs.declared.items.ForLoopIterator.{ForLoopIterator}
 
 -- an item by its key, where it has one, and its value
-abbrev pub lent_item : Found × Found → Item
+abbrev pub lent_item : FoundValue × FoundValue → Item
 lent_item i = (found_value i.0, unwrap_or (found_value i.1) undefined)
 
 -- the items that are still to come

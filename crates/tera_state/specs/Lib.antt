@@ -1,13 +1,13 @@
 pub mod Stack
 pub mod Topmost
-pub mod Lent
+pub mod ContextRef
 pub mod Contexts
 pub mod Items
 pub mod Scope
 pub mod Bound
 pub mod LayerNames
 pub mod BindingMap
-pub mod Found
+pub mod FoundValue
 pub mod Opened
 pub mod Lending
 pub mod Scopes

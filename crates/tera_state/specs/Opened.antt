@@ -2,7 +2,7 @@
 use Rattle.std.specs.Prelude.{◌≡◌, ℕ, suc, pos, Bool, true, false, cond, List, [], ◌∷◌, Option, Some, None, Result, Ok, Err, length, drop, slice_get, map, not, ◌&&◌}
 use Rattle.tera_values.specs.Val.{Val, int, bytes, array, map as map_of, list_of}
 use Rattle.tera_values.specs.Access.{pairs}
-use Rattle.tera_state.specs.Found.{key_as_value}
+use Rattle.tera_state.specs.FoundValue.{key_as_value}
 use Rattle.tera_errors.specs.Fault.{Fault, message}
 use Rattle.tera_errors.specs.Site.{Name}
 use Rattle.tera_state.specs.Items.{Item, items, unkeyed}

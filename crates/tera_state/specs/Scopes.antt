@@ -9,38 +9,38 @@ use Rattle.tera_state.specs.Stack.{lower}
 use Rattle.tera_state.specs.Opened.{turns_of, to_come}
 use Rattle.tera_state.specs.declared.bindings.Binding.{Binding}
 use Rattle.tera_state.specs.declared.frame.Frame.{Frame}
-use Rattle.tera_state.specs.declared.frame.Standing.{Standing}
-use Rattle.tera_state.specs.declared.frame.Standing.TheVariants as standing
+use Rattle.tera_state.specs.declared.frame.FrameKind.{FrameKind}
+use Rattle.tera_state.specs.declared.frame.FrameKind.TheVariants as standing
 use Rattle.tera_state.specs.declared.scopes.Scopes.{Scopes}
 
 -- a body with no open loop
-abbrev pub begun : Standing → Frame
+abbrev pub begun : FrameKind → Frame
 begun s = record { standing = s; loops = [] }
 
 abbrev pub variables_at : List Binding → ℕ → Frame → Variables
 variables_at bs k f = record { turns = turns_of bs k f.loops; sets = layer_of bs k 0 }
 
-abbrev pub kind_of : Standing → Kind
-kind_of (standing.Whole c) = whole
-kind_of standing.Included = included
-kind_of (standing.Called c) = called
+abbrev pub kind_of : FrameKind → Kind
+kind_of (standing.Template c) = whole
+kind_of standing.Include = included
+kind_of (standing.Component c) = called
 
 -- an include has its includer's context
-abbrev pub own_context : Standing → Named Val → Named Val
-own_context (standing.Whole c) above = c.0
-own_context standing.Included above = above
-own_context (standing.Called c) above = c
+abbrev pub own_context : FrameKind → Named Val → Named Val
+own_context (standing.Template c) above = c.0
+own_context standing.Include above = above
+own_context (standing.Component c) above = c
 
-abbrev pub own_global : Standing → Named Val
-own_global (standing.Whole c) = c.1
-own_global standing.Included = []
-own_global (standing.Called c) = []
+abbrev pub own_global : FrameKind → Named Val
+own_global (standing.Template c) = c.1
+own_global standing.Include = []
+own_global (standing.Component c) = []
 
-abbrev pub context_of : Standing → List Frame → Named Val
+abbrev pub context_of : FrameKind → List Frame → Named Val
 context_of s [] = own_context s []
 context_of s (f ∷ fs) = own_context s (context_of f.standing fs)
 
-abbrev pub frame_of : Standing → List Frame → FrameMeant
+abbrev pub frame_of : FrameKind → List Frame → FrameMeant
 frame_of s below = record { kind = kind_of s; context = context_of s below; global = own_global s }
 
 -- a frame's number is how many are below it
@@ -69,12 +69,12 @@ bound_above_at s k f n =
 -- such a body is an include that binds nothing of the name, and so passes it on
 abbrev pub PassesOn : Scopes → ℕ → Frame → Name → Type 0
 PassesOn s k f n =
-    (f.standing ≡ standing.Included) × (in_variables n (variables_at s.bindings k f) ≡ None)
+    (f.standing ≡ standing.Include) × (in_variables n (variables_at s.bindings k f) ≡ None)
 
 -- what one with so many frames below it is handed down
 abbrev pub handed_at : Scopes → ℕ → Name → Option Val
 handed_at s k n =
-    bound n (frame_of standing.Included (lower k s.below)) (above_of s.bindings (lower k s.below))
+    bound n (frame_of standing.Include (lower k s.below)) (above_of s.bindings (lower k s.below))
     nothing_set
 
 -- the turns that are still to come of each open loop, the innermost loop first

@@ -9,15 +9,15 @@ use Rattle.tera_values.specs.Val.{Val, undefined}
 use Rattle.tera_values.specs.Named.{Named, at_name}
 use Rattle.tera_values.specs.Access.{is_undefined}
 use Rattle.tera_values.specs.Arguments.{unless_undefined}
-use Rattle.tera_built_ins.specs.declared.filter.BuiltInFilter.{BuiltInFilter}
+use Rattle.tera_built_ins.specs.declared.built_in_filter.BuiltInFilter.{BuiltInFilter}
 use Rattle.tera_built_ins.specs.Escaping.{Escaping, escape_or_html}
 use Rattle.tera_built_ins.specs.Filters.{filter_named}
 use Rattle.tera_state.specs.FoundNames.{names_in, found_among, found_names, IsMapOf}
 use Rattle.tera_state.specs.Rendered.{rendered}
 use Rattle.tera_state.specs.Scope.{Around, Variables, look}
 use Rattle.tera_state.specs.Scopes.{around_of, variables_of}
-use Rattle.tera_state.specs.declared.state.Source.{Source}
-use Rattle.tera_state.specs.declared.state.Source.TheVariants.{Alone, Open}
+use Rattle.tera_state.specs.declared.state.StateSource.{StateSource}
+use Rattle.tera_state.specs.declared.state.StateSource.TheVariants.{Context, Scopes}
 use Rattle.tera_state.specs.declared.state.StateOver.{StateOver}
 
 -- names with the built-in filters that they stand for
@@ -48,19 +48,19 @@ filters_left None name = None
 filters_left (Some taken) name = if list_any (bytes_eq name) taken then None else filter_named name
 
 -- what a name stands for in a context alone, or in the scopes of a rendering
-abbrev pub look_in_source : Source → Name → Val
+abbrev pub look_in_source : StateSource → Name → Val
 look_in_source (Alone context) name = unwrap_or (at_name name context.now) undefined
 look_in_source (Open scopes) name = look name (around_of scopes.now) (variables_of scopes.now)
 
 -- the names that are found there, each with its value
-abbrev pub names_in_source : Source → Named Val
+abbrev pub names_in_source : StateSource → Named Val
 names_in_source (Alone context) =
     found_among (look_in_source (Alone context)) (names_in context.now)
 names_in_source (Open scopes) = found_names (around_of scopes.now) (variables_of scopes.now)
 
 -- what a state finds by name is a finite map
 abbrev pub StateNamesAreAMap : Type 0
-StateNamesAreAMap = (source : Source) → IsMapOf (look_in_source source) (names_in_source source)
+StateNamesAreAMap = (source : StateSource) → IsMapOf (look_in_source source) (names_in_source source)
 
 abbrev pub lent_names : Option (Bor (List Name)) → Option (List Name)
 lent_names = option_map (λ names. names.now)

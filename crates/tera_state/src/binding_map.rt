@@ -14,7 +14,7 @@ use crate::part::Part;
 use std::alloc::{AllocError, Global};
 use std::collections::BTreeMap;
 use std::marker::Model;
-use tera_values::{Context, Sought, TeraResult, Value};
+use tera_values::{Context, NameRef, TeraResult, Value};
 
 /// Bindings in their order, each found by its name at once, whatever names there are.
 #[derive(Drop)]
@@ -65,18 +65,18 @@ impl BindingMap {
 
     /// The value of the name in the layer.
     #[inline(always)]
-    pub fn get(&self, frame: usize, layer: usize, name: &Sought<'_>) -> Option<&Value>
+    pub fn get(&self, frame: usize, layer: usize, name: &NameRef<'_>) -> Option<&Value>
         ensures { option_copied result ≡ value_in self.now frame layer name.now }
     {
         if self.is_empty() {
             return None;
         }
-        self.found(frame, layer, name)
+        self.search(frame, layer, name)
     }
 
     // The same where something is bound.
     #[inline(never)]
-    fn found(&self, frame: usize, layer: usize, name: &Sought<'_>) -> Option<&Value>
+    fn search(&self, frame: usize, layer: usize, name: &NameRef<'_>) -> Option<&Value>
         ensures { option_copied result ≡ value_in self.now frame layer name.now }
     {
         match self.position(frame, layer, name) {
@@ -86,7 +86,7 @@ impl BindingMap {
     }
 
     // Where the name in the layer stands.
-    fn position(&self, frame: usize, layer: usize, name: &Sought<'_>) -> Option<usize>
+    fn position(&self, frame: usize, layer: usize, name: &NameRef<'_>) -> Option<usize>
         ensures { result ≡ position_from 0 self.now frame layer name.now }
     {
         if !self.is_ordered {
@@ -111,7 +111,7 @@ impl BindingMap {
             name,
             value,
         } = binding;
-        match self.position(frame, layer, &name.sought()) {
+        match self.position(frame, layer, &name.as_name_ref()) {
             Some(at) => self.items[at].value = value,
             None => self.push(Binding {
                 frame,
@@ -169,7 +169,7 @@ impl BindingMap {
             drop(last);
         }
         if !ends_before(self.items.as_slice(), self.is_ordered, part) {
-            self.items.retain(|b: &Binding| part.is_outside(at(b)));
+            self.items.retain(|b: &Binding| part.is_outside(layer_at(b)));
             self.is_ordered = false;
         }
         if self.items.is_empty() {
@@ -188,7 +188,7 @@ impl BindingMap {
             self.places.remove(SoughtLayerName {
                 frame: b.frame,
                 layer: b.layer,
-                name: &b.name.sought(),
+                name: &b.name.as_name_ref(),
             });
         }
         last
@@ -228,7 +228,7 @@ fn place(
 }
 
 // The layer of a binding.
-fn at(binding: &Binding) -> Layer
+fn layer_at(binding: &Binding) -> Layer
     ensures { result ≡ layer_at binding.now }
 {
     Layer {
@@ -238,11 +238,11 @@ fn at(binding: &Binding) -> Layer
 }
 
 // The layer of the last binding.
-fn last(items: &[Binding]) -> Option<Layer>
+fn last_layer(items: &[Binding]) -> Option<Layer>
     ensures { result ≡ last_layer items.now }
 {
     match items.last() {
-        Some(b) => Some(at(b)),
+        Some(b) => Some(layer_at(b)),
         None => None,
     }
 }
@@ -251,7 +251,7 @@ fn last(items: &[Binding]) -> Option<Layer>
 fn goes_on(items: &[Binding], is_ordered: bool, next: Layer) -> bool
     ensures { result ≡ goes_on is_ordered (last_layer items.now) next.frame next.layer }
 {
-    match last(items) {
+    match last_layer(items) {
         Some(last) => is_ordered && !is_beyond(last.frame, last.layer, next),
         None => is_ordered,
     }
@@ -261,7 +261,7 @@ fn goes_on(items: &[Binding], is_ordered: bool, next: Layer) -> bool
 fn ends_before(items: &[Binding], is_ordered: bool, part: Part) -> bool
     ensures { result ≡ ends_before is_ordered part (last_layer items.now) }
 {
-    match last(items) {
+    match last_layer(items) {
         Some(last) => is_ordered && part.is_after(last),
         None => true,
     }
@@ -271,7 +271,7 @@ fn ends_before(items: &[Binding], is_ordered: bool, part: Part) -> bool
 fn ends_in(items: &[Binding], part: Part) -> bool
     ensures { result ≡ ends_in part (last_layer items.now) }
 {
-    match last(items) {
+    match last_layer(items) {
         Some(last) => !part.is_outside(last),
         None => false,
     }

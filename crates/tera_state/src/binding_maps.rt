@@ -10,7 +10,7 @@ use crate::bindings::{Binding, Layer};
 use crate::part::Part;
 use std::alloc::{AllocError, Global};
 use std::marker::Model;
-use tera_values::{Context, Sought, TeraResult, Value};
+use tera_values::{Context, NameRef, TeraResult, Value};
 
 /// Bindings, each found by its name at once. What a rendering binds comes last in its map, and what ends stands at the end:
 /// in one map a name that is set for all inside a loop would lie above what the loop's turns set.
@@ -61,7 +61,7 @@ impl BindingMaps {
 
     /// The value of the name in the layer.
     #[inline(always)]
-    pub fn get(&self, frame: usize, layer: usize, name: &Sought<'_>) -> Option<&Value>
+    pub fn get(&self, frame: usize, layer: usize, name: &NameRef<'_>) -> Option<&Value>
         ensures { option_copied result ≡ value_in self.now frame layer name.now }
     {
         if layer == 0 {

@@ -8,7 +8,7 @@ use crate::binding_maps::BindingMaps;
 use crate::part::Part;
 use std::alloc::{AllocError, Global};
 use std::marker::Model;
-use tera_values::{Context, Name, Sought, TeraResult, Value};
+use tera_values::{Context, Name, NameRef, TeraResult, Value};
 
 /// A name with its value, in a layer of a frame.
 #[derive(Drop)]
@@ -78,13 +78,13 @@ impl Bindings {
 
     /// The value of the name in the layer.
     #[inline(always)]
-    pub fn get(&self, frame: usize, layer: usize, name: &Sought<'_>) -> Option<&Value>
+    pub fn get(&self, frame: usize, layer: usize, name: &NameRef<'_>) -> Option<&Value>
         ensures { option_copied result ≡ value_in self.now frame layer name.now }
     {
         if is_beyond(frame, layer, self.end) {
             return None;
         }
-        self.found(frame, layer, name)
+        self.search(frame, layer, name)
     }
 
     /// The same for a name that is kept.
@@ -95,20 +95,20 @@ impl Bindings {
         if is_beyond(frame, layer, self.end) {
             return None;
         }
-        self.found_kept(frame, layer, name)
+        self.search_kept(frame, layer, name)
     }
 
     // The same in a layer that may bind something. What it looks for takes no room where the layer binds nothing.
     #[inline(never)]
-    fn found_kept(&self, frame: usize, layer: usize, name: &Name) -> Option<&Value>
+    fn search_kept(&self, frame: usize, layer: usize, name: &Name) -> Option<&Value>
         ensures { option_copied result ≡ value_in self.now frame layer name.now }
     {
-        self.found(frame, layer, &name.sought())
+        self.search(frame, layer, &name.as_name_ref())
     }
 
     // The same for a name that is looked for.
     #[inline(never)]
-    fn found(&self, frame: usize, layer: usize, name: &Sought<'_>) -> Option<&Value>
+    fn search(&self, frame: usize, layer: usize, name: &NameRef<'_>) -> Option<&Value>
         ensures { option_copied result ≡ value_in self.now frame layer name.now }
     {
         match find(self.few.as_slice(), frame, layer, name) {
@@ -130,9 +130,9 @@ impl Bindings {
         ensures err { OnErr result (self.new ≡ self.old) }
     {
         self.end = end_with(frame, layer, self.end);
-        match position(self.few.as_slice(), frame, layer, &name.sought()) {
+        match position(self.few.as_slice(), frame, layer, &name.as_name_ref()) {
             Some(at) => self.few[at].value = value,
-            None => put_behind(
+            None => append(
                 &mut self.few,
                 &mut self.others,
                 Binding {
@@ -191,7 +191,7 @@ impl Bindings {
 
 // Puts a binding that is none of the few behind all.
 #[inline(always)]
-fn put_behind(
+fn append(
     few: &mut Vec<Binding>,
     others: &mut BindingMaps,
     binding: Binding,
@@ -248,7 +248,7 @@ fn find<'a>(
     items: &'a [Binding],
     frame: usize,
     layer: usize,
-    name: &Sought<'_>,
+    name: &NameRef<'_>,
 ) -> Option<&'a Value>
     ensures { option_copied result ≡ value_in items.now frame layer name.now }
 {
@@ -264,7 +264,7 @@ pub(crate) fn position(
     items: &[Binding],
     frame: usize,
     layer: usize,
-    name: &Sought<'_>,
+    name: &NameRef<'_>,
 ) -> Option<usize>
     ensures { result ≡ position_from 0 items.now frame layer name.now }
 {

@@ -4,23 +4,23 @@ ghost use Rattle.std.specs.Option.{option_or};
 ghost use Rattle.tera_values.specs.Prelude.{at_name};
 ghost use Rattle.tera_errors.specs.Prelude.{Gives};
 
-use crate::lent_names::Lent;
+use crate::context_ref::ContextRef;
 use std::alloc::{AllocError, Global};
 use std::marker::Model;
-use tera_errors::lacking;
-use tera_values::{Context, Name, Sought, TeraResult, Value};
+use tera_errors::alloc_result;
+use tera_values::{Context, Name, NameRef, TeraResult, Value};
 
 /// A context, and around it the global one. A name that was noted is found without a search, unless another one took its slot.
 #[derive(Drop)]
 pub struct Contexts<'c> {
-    context: Lent<'c>,
-    global: Lent<'c>,
-    known: Vec<Option<Known<'c>>>,
+    context: ContextRef<'c>,
+    global: ContextRef<'c>,
+    known: Vec<Option<CachedName<'c>>>,
 }
 
 /// A name, and what the contexts have for it.
 #[derive(Drop)]
-pub(crate) struct Known<'c> {
+pub(crate) struct CachedName<'c> {
     pub(crate) name: Name,
     pub(crate) value: Option<&'c Value>,
 }
@@ -31,7 +31,7 @@ impl<'c> Model for Contexts<'c> {
     ghost use Rattle.tera_values.specs.Named.{Named, named_code};
     ghost use Rattle.tera_values.specs.Val.{Val};
     ghost use Rattle.tera_values.specs.Coding.{val_coding};
-    ghost use Rattle.tera_state.specs.Contexts.{IsKnown};
+    ghost use Rattle.tera_state.specs.Contexts.{IsCached};
 
     ghost Value = { Named Val × Named Val };
 
@@ -39,12 +39,12 @@ impl<'c> Model for Contexts<'c> {
 
     ghost view = { λ c. (c.context, c.global) };
 
-    ghost invariant = { λ c. All (IsKnown c.context c.global) c.known.items };
+    ghost invariant = { λ c. All (IsCached c.context c.global) c.known.items };
 }
 
 impl<'c> Contexts<'c> {
     /// Nothing is known of their names. Takes no memory.
-    pub fn new(alloc: Global, context: Lent<'c>, global: Lent<'c>) -> Contexts<'c>
+    pub fn new(alloc: Global, context: ContextRef<'c>, global: ContextRef<'c>) -> Contexts<'c>
         ensures { result ≡ (context.entry, global.entry) }
     {
         Contexts {
@@ -55,14 +55,14 @@ impl<'c> Contexts<'c> {
     }
 
     /// The names of the inner context. Takes no memory.
-    pub fn context(&self) -> Lent<'c>
+    pub fn context(&self) -> ContextRef<'c>
         ensures { result ≡ self.now.0 }
     {
         self.context.share()
     }
 
     /// A copy of the global context.
-    pub fn global(&self, alloc: Global) -> TeraResult<Context>
+    pub fn global_context(&self, alloc: Global) -> TeraResult<Context>
         ensures { Gives (λ c. c) result (Ok self.now.1) }
     {
         self.global.to_context(alloc)
@@ -70,11 +70,11 @@ impl<'c> Contexts<'c> {
 
     /// The value at a name. Takes no memory.
     #[inline(always)]
-    pub fn get(&self, name: &Sought<'_>) -> Option<&'c Value>
+    pub fn get(&self, name: &NameRef<'_>) -> Option<&'c Value>
         ensures { option_copied result
             ≡ option_or (at_name name.now self.now.0) (at_name name.now self.now.1) }
     {
-        match self.known(name) {
+        match self.cached_name(name) {
             Some(known) => known.value,
             None => self.search(name),
         }
@@ -82,7 +82,7 @@ impl<'c> Contexts<'c> {
 
     // What is known of the name, if its slot has it.
     #[inline(always)]
-    fn known(&self, name: &Sought<'_>) -> Option<&Known<'c>>
+    fn cached_name(&self, name: &NameRef<'_>) -> Option<&CachedName<'c>>
         ensures { IfSome result (λ known. option_copied known.now.value
             ≡ option_or (at_name name.now self.now.0) (at_name name.now self.now.1)) }
     {
@@ -94,7 +94,7 @@ impl<'c> Contexts<'c> {
 
     // The same where nothing is known of the name.
     #[inline(never)]
-    fn search(&self, name: &Sought<'_>) -> Option<&'c Value>
+    fn search(&self, name: &NameRef<'_>) -> Option<&'c Value>
         ensures { option_copied result
             ≡ option_or (at_name name.now self.now.0) (at_name name.now self.now.1) }
     {
@@ -136,13 +136,13 @@ impl<'c> Contexts<'c> {
     fn note(&mut self, name: &Name) -> Result<(), AllocError>
         ensures { self.new ≡ self.old }
     {
-        let sought = name.sought();
+        let sought = name.as_name_ref();
         let slot = slot_of(&sought, self.known.len());
-        if slot < self.known.len() && self.known(&sought).is_none() {
+        if slot < self.known.len() && self.cached_name(&sought).is_none() {
             let value = self.search(&sought);
             if value.is_some() || self.known[slot].is_none() {
-                let name = lacking(name.share())?;
-                self.known[slot] = Some(Known { name, value });
+                let name = alloc_result(name.share())?;
+                self.known[slot] = Some(CachedName { name, value });
             }
         }
         Ok(())
@@ -162,6 +162,6 @@ fn slots_for(names: usize) -> usize {
 
 // In which of so many slots the name is kept: by the low bits of its hash.
 #[inline(always)]
-fn slot_of(name: &Sought<'_>, slots: usize) -> usize {
+fn slot_of(name: &NameRef<'_>, slots: usize) -> usize {
     name.hash() as usize & slots.wrapping_sub(1)
 }

@@ -3,13 +3,13 @@ ghost use Rattle.std.specs.Prelude.{◌≡◌, unwrap_or};
 ghost use Rattle.std.specs.Option.{option_or};
 ghost use Rattle.tera_errors.specs.Prelude.{Name};
 ghost use Rattle.tera_values.specs.Prelude.{at_name, undefined, Val};
-ghost use Rattle.tera_state.specs.Found.{found_value};
+ghost use Rattle.tera_state.specs.FoundValue.{found_value};
 
-use crate::found::Found;
+use crate::found_value::FoundValue;
 use crate::scopes::Scopes;
 use crate::state::StateOver;
 use tera_built_ins::EscapeFn;
-use tera_values::{Context, Sought};
+use tera_values::{Context, NameRef};
 
 /// What calls a component, as its implicit parameters see it: they are looked up in it where they are not given. In a rendering
 /// it is the scopes; who binds a component's arguments without one has contexts, and an object its state.
@@ -18,7 +18,7 @@ pub trait Implicits {
     ghost implicit: { Self → Name → Val };
 
     /// What the name stands for. Takes no memory.
-    fn look_implicit(&self, name: &Sought<'_>) -> Found<'_>
+    fn look_implicit(&self, name: &NameRef<'_>) -> FoundValue<'_>
         ensures { unwrap_or (found_value result) undefined ≡ implicit self.now name.now };
 }
 
@@ -29,7 +29,7 @@ impl<'c> Implicits for Scopes<'c> {
     ghost implicit = { λ s n. look_implicit n (around_of s) (variables_of s) };
 
     #[inline(always)]
-    fn look_implicit(&self, name: &Sought<'_>) -> Found<'_> {
+    fn look_implicit(&self, name: &NameRef<'_>) -> FoundValue<'_> {
         Scopes::look_implicit(self, name)
     }
 }
@@ -40,7 +40,7 @@ impl<'a, 'c, E: EscapeFn> Implicits for StateOver<'a, 'c, E> {
 
     ghost implicit = { λ s n. (view_of E.escaped s).look n };
 
-    fn look_implicit(&self, name: &Sought<'_>) -> Found<'_> {
+    fn look_implicit(&self, name: &NameRef<'_>) -> FoundValue<'_> {
         self.look(name.as_str())
     }
 }
@@ -48,8 +48,8 @@ impl<'a, 'c, E: EscapeFn> Implicits for StateOver<'a, 'c, E> {
 impl Implicits for Context {
     ghost implicit = { λ c n. unwrap_or (at_name n c) undefined };
 
-    fn look_implicit(&self, name: &Sought<'_>) -> Found<'_> {
-        found_in(self, name)
+    fn look_implicit(&self, name: &NameRef<'_>) -> FoundValue<'_> {
+        look_in_context(self, name)
     }
 }
 
@@ -58,19 +58,19 @@ impl<'a> Implicits for (&'a Context, &'a Context) {
     ghost implicit = { λ p n.
         unwrap_or (option_or (at_name n p.0.now) (at_name n p.1.now)) undefined };
 
-    fn look_implicit(&self, name: &Sought<'_>) -> Found<'_> {
-        match found_in(self.0, name) {
-            Found::Nothing => found_in(self.1, name),
+    fn look_implicit(&self, name: &NameRef<'_>) -> FoundValue<'_> {
+        match look_in_context(self.0, name) {
+            FoundValue::Unbound => look_in_context(self.1, name),
             found => found,
         }
     }
 }
 
-fn found_in<'a>(context: &'a Context, name: &Sought<'_>) -> Found<'a>
+fn look_in_context<'a>(context: &'a Context, name: &NameRef<'_>) -> FoundValue<'a>
     ensures { found_value result ≡ at_name name.now context.entry.now }
 {
     match context.look(name) {
-        Some(value) => Found::Kept(value),
-        None => Found::Nothing,
+        Some(value) => FoundValue::Kept(value),
+        None => FoundValue::Unbound,
     }
 }

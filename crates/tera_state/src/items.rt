@@ -2,12 +2,12 @@
 ghost use Rattle.std.specs.Prelude.{◌≡◌, ◌&&◌, IsOk, None, Ok, drop, length, not, slice_get};
 ghost use Rattle.tera_errors.specs.Prelude.{Gives, Tells, message};
 ghost use Rattle.tera_values.specs.Prelude.{plain, array, text_of, vals};
-ghost use Rattle.tera_state.specs.Found.{found_value};
+ghost use Rattle.tera_state.specs.FoundValue.{found_value};
 ghost use Rattle.tera_state.specs.Items.{clusters_in};
 ghost use Rattle.tera_state.specs.Scope.{is_map};
 ghost use Rattle.tera_state.specs.Opened.{walked, items_for, key_at, value_at};
 
-use crate::found::Found;
+use crate::found_value::FoundValue;
 use std::alloc::Global;
 use tera_values::{Error, Shape, TeraResult, Value};
 use unicode_segmentation::UnicodeSegmentation;
@@ -34,14 +34,14 @@ impl<'a> Iterator for ForLoopIterator<'a> {
     ghost use Rattle.std.specs.Iterator.{YieldsFirstBy, item_count};
     ghost use Rattle.tera_state.specs.Lending.{items_left, lent_item};
 
-    type Item = (Found<'a>, Found<'a>);
+    type Item = (FoundValue<'a>, FoundValue<'a>);
 
     ghost next_gives = { YieldsFirstBy lent_item items_left };
 
     ghost remaining = { item_count items_left };
 
     /// The key and the value of the next item. Takes no memory.
-    fn next(&mut self) -> Option<(Found<'a>, Found<'a>)> {
+    fn next(&mut self) -> Option<(FoundValue<'a>, FoundValue<'a>)> {
         let items = self.items;
         let index = self.index;
         if index >= size_of(items) {
@@ -65,62 +65,62 @@ pub(crate) fn size_of(items: &Value) -> usize
 }
 
 /// The item at a position.
-pub(crate) fn value_at(items: &Value, index: usize) -> Found<'_>
+pub(crate) fn value_at(items: &Value, index: usize) -> FoundValue<'_>
     ensures { found_value result ≡ value_at (slice_get (walked items.now) index) }
 {
     match items.shape() {
         Shape::Array(items) => match items.get(index) {
-            Some(value) => Found::Kept(value),
-            None => Found::Nothing,
+            Some(value) => FoundValue::Kept(value),
+            None => FoundValue::Unbound,
         },
         Shape::Map(entries) => match entries.entry_at(index) {
-            Some((_, value)) => Found::Kept(value),
-            None => Found::Nothing,
+            Some((_, value)) => FoundValue::Kept(value),
+            None => FoundValue::Unbound,
         },
         Shape::Bytes(bytes) => match bytes.get(index) {
-            Some(byte) => Found::Number(*byte as usize),
-            None => Found::Nothing,
+            Some(byte) => FoundValue::Number(*byte as usize),
+            None => FoundValue::Unbound,
         },
-        _ => Found::Nothing,
+        _ => FoundValue::Unbound,
     }
 }
 
 /// The key of the item at a position.
-pub(crate) fn key_at(items: &Value, index: usize) -> Found<'_>
+pub(crate) fn key_at(items: &Value, index: usize) -> FoundValue<'_>
     ensures { found_value result ≡ key_at (slice_get (walked items.now) index) }
 {
     match items.shape() {
         Shape::Map(entries) => match entries.entry_at(index) {
-            Some((key, _)) => Found::Key(key),
-            None => Found::Nothing,
+            Some((key, _)) => FoundValue::Key(key),
+            None => FoundValue::Unbound,
         },
-        Shape::Array(_) => Found::Nothing,
-        Shape::Bytes(_) => Found::Nothing,
-        _ => Found::Nothing,
+        Shape::Array(_) => FoundValue::Unbound,
+        Shape::Bytes(_) => FoundValue::Unbound,
+        _ => FoundValue::Unbound,
     }
 }
 
 /// What a loop over the value goes over by position: the value itself, and for a text, whose clusters are made here, their
 /// array. With a key it must be a map.
-pub(crate) fn gone_over(alloc: Global, is_keyed: bool, target: Value) -> TeraResult<Value>
+pub(crate) fn loop_items(alloc: Global, is_keyed: bool, target: Value) -> TeraResult<Value>
     ensures items { Gives walked result (items_for is_keyed target) }
     ensures ready { text_of target ≡ None → IsOk (items_for is_keyed target) → IsOk result }
 {
     if lacks_keys(is_keyed, &target) {
-        return Err(without_keys(alloc, &target));
+        return Err(no_keys(alloc, &target));
     }
     match target.shape() {
         Shape::Text(content, _) => clusters(alloc, content),
         Shape::Array(_) => Ok(target),
         Shape::Map(_) => Ok(target),
         Shape::Bytes(_) => Ok(target),
-        _ => Err(without_items(alloc, &target)),
+        _ => Err(no_items(alloc, &target)),
     }
 }
 
 // A loop with a key goes over a map, and nothing else.
 #[inline(never)]
-fn without_keys(alloc: Global, target: &Value) -> Error
+fn no_keys(alloc: Global, target: &Value) -> Error
     ensures { Tells result message }
 {
     let kind = target.in_words();
@@ -131,7 +131,7 @@ fn without_keys(alloc: Global, target: &Value) -> Error
 
 // A loop goes over what has items, and nothing else.
 #[inline(never)]
-fn without_items(alloc: Global, target: &Value) -> Error
+fn no_items(alloc: Global, target: &Value) -> Error
     ensures { Tells result message }
 {
     let kind = target.in_words();

@@ -5,7 +5,7 @@ ghost use Rattle.tera_state.specs.LayerNames.{key, layer_name_cmp, layer_names_t
 
 use std::cmp::Ordering;
 use std::collections::btree_map::Comparable;
-use tera_values::{Name, Sought};
+use tera_values::{Name, NameRef};
 
 /// A name in a layer of a frame. They stand by frame, by layer and then in byte order of their names.
 #[derive(Drop, PartialEq, Eq, PartialOrd, Ord)]
@@ -20,7 +20,7 @@ pub struct LayerName {
 pub struct SoughtLayerName<'s, 'a> {
     pub frame: usize,
     pub layer: usize,
-    pub name: &'s Sought<'a>,
+    pub name: &'s NameRef<'a>,
 }
 
 impl<'s, 'a> Comparable<LayerName> for SoughtLayerName<'s, 'a> {

@@ -2,16 +2,16 @@
 ghost use Rattle.std.specs.Prelude.{◌≡◌, IfOk, IsOk, None, Some, drop, length, true, false};
 ghost use Rattle.tera_errors.specs.Prelude.{Gives};
 ghost use Rattle.tera_values.specs.Prelude.{plain, at_name, text_of};
-ghost use Rattle.tera_state.specs.Found.{found_value};
+ghost use Rattle.tera_state.specs.FoundValue.{found_value};
 ghost use Rattle.tera_state.specs.Items.{items_in};
 ghost use Rattle.tera_state.specs.Lending.{items_left};
 ghost use Rattle.tera_state.specs.Scope.{loop_turns};
 ghost use Rattle.tera_state.specs.Opened.{items_of, heading, names_at, items_over, turns_left, counters_of, GoesOn};
 
-use crate::found::Found;
-use crate::items::{ForLoopIterator, gone_over, key_at, size_of, value_at};
+use crate::found_value::FoundValue;
+use crate::items::{ForLoopIterator, loop_items, key_at, size_of, value_at};
 use std::alloc::Global;
-use tera_values::{Counter, Name, Sought, TeraResult, Value};
+use tera_values::{Counter, Name, NameRef, TeraResult, Value};
 
 /// An open loop, which stands at one of its items. Nothing of the item is copied: its names are positions in the items.
 #[derive(Drop)]
@@ -25,11 +25,11 @@ pub struct ForLoop {
 }
 
 /// A loop at its first turn, or none where there is no item to go over.
-pub type Begun = TeraResult<Option<ForLoop>>;
+pub type LoopStart = TeraResult<Option<ForLoop>>;
 
 impl ForLoop {
     /// A `for` loop at its first turn, or none where there is no item. Only a text takes memory, for its clusters.
-    pub fn new(alloc: Global, name: Name, key: Option<Name>, target: Value) -> Begun
+    pub fn new(alloc: Global, name: Name, key: Option<Name>, target: Value) -> LoopStart
         ensures turns { Gives turns_left result (loop_turns (heading name key true) target) }
         ensures items { IfOk result (λ opened. items_in plain target ≡ Some (items_over opened)) }
         ensures ready { text_of target ≡ None → IsOk (loop_turns (heading name key true) target)
@@ -39,7 +39,7 @@ impl ForLoop {
     }
 
     /// The same for a comprehension, which doesn't count its turns.
-    pub fn new_comprehension(alloc: Global, name: Name, key: Option<Name>, target: Value) -> Begun
+    pub fn new_comprehension(alloc: Global, name: Name, key: Option<Name>, target: Value) -> LoopStart
         ensures turns { Gives turns_left result (loop_turns (heading name key false) target) }
         ensures items { IfOk result (λ opened. items_in plain target ≡ Some (items_over opened)) }
         ensures ready { text_of target ≡ None → IsOk (loop_turns (heading name key false) target)
@@ -50,13 +50,13 @@ impl ForLoop {
 
     // The same, which counts or does not.
     #[tactic(auto, using(crate::proofs::Started::turns_need_items))]
-    fn begin(alloc: Global, name: Name, key: Option<Name>, counts: bool, target: Value) -> Begun
+    fn begin(alloc: Global, name: Name, key: Option<Name>, counts: bool, target: Value) -> LoopStart
         ensures turns { Gives turns_left result (loop_turns (heading name key counts) target) }
         ensures items { IfOk result (λ opened. items_in plain target ≡ Some (items_over opened)) }
         ensures ready { text_of target ≡ None → IsOk (loop_turns (heading name key counts) target)
             → IsOk result }
     {
-        let items = gone_over(alloc, key.is_some(), target)?;
+        let items = loop_items(alloc, key.is_some(), target)?;
         if size_of(&items) == 0 {
             return Ok(None);
         }
@@ -97,27 +97,27 @@ impl ForLoop {
 
     /// What the turn counts. Takes no memory.
     #[inline(always)]
-    pub fn counter(&self, name: &Sought<'_>) -> Found<'_>
+    pub fn counter(&self, name: &NameRef<'_>) -> FoundValue<'_>
         ensures { found_value result ≡ at_name name.now (counters_of self.now) }
     {
         let Some(counter) = name.counter() else {
-            return Found::Nothing;
+            return FoundValue::Unbound;
         };
         if !self.counts {
-            return Found::Nothing;
+            return FoundValue::Unbound;
         }
         match counter {
-            Counter::Index => Found::After(self.index),
-            Counter::Index0 => Found::Number(self.index),
-            Counter::First => Found::Flag(self.index == 0),
-            Counter::Last => Found::Flag(self.index as i128 + 1 == self.size() as i128),
-            Counter::Length => Found::Number(self.size()),
+            Counter::Index => FoundValue::Index1(self.index),
+            Counter::Index0 => FoundValue::Number(self.index),
+            Counter::First => FoundValue::Flag(self.index == 0),
+            Counter::Last => FoundValue::Flag(self.index as i128 + 1 == self.size() as i128),
+            Counter::Length => FoundValue::Number(self.size()),
         }
     }
 
     /// The value and the key of the turn, by their names. Takes no memory.
     #[inline(always)]
-    pub fn named(&self, name: &Sought<'_>) -> Found<'_>
+    pub fn loop_value(&self, name: &NameRef<'_>) -> FoundValue<'_>
         ensures { found_value result ≡ at_name name.now (names_at self.now) }
     {
         if name.is(&self.name) {
@@ -128,10 +128,10 @@ impl ForLoop {
                 if name.is(key) {
                     key_at(&self.items, self.index)
                 } else {
-                    Found::Nothing
+                    FoundValue::Unbound
                 }
             }
-            None => Found::Nothing,
+            None => FoundValue::Unbound,
         }
     }
 }

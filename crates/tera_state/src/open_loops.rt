@@ -1,18 +1,18 @@
 // The open loops of a body.
 ghost use Rattle.std.specs.Prelude.{◌≡◌, ◌≤◌, ◌∷◌, ◌<◌, [], Some, length, drop, OnOk, IfSome};
 ghost use Rattle.tera_state.specs.Bound.{layer_of};
-ghost use Rattle.tera_state.specs.Found.{found_value};
+ghost use Rattle.tera_state.specs.FoundValue.{found_value};
 ghost use Rattle.tera_state.specs.Opened.{turn_of, turns_of, InnermostGoesOn};
 ghost use Rattle.tera_state.specs.Scope.{in_turn, in_turns, in_innermost};
 ghost use Rattle.tera_state.specs.Stack.{lower};
 
 use crate::bindings::Bindings;
-use crate::found::Found;
+use crate::found_value::FoundValue;
 use crate::loops::ForLoop;
 use crate::stack::Stack;
 use std::alloc::{AllocError, Global};
 use std::marker::Model;
-use tera_values::{Name, Sought, TeraResult, Value};
+use tera_values::{Name, NameRef, TeraResult, Value};
 
 /// The open loops of a body. A contract sees the list of them, the innermost first. The innermost stands apart, so that
 /// its turns are found first and one loop alone takes no memory.
@@ -94,14 +94,14 @@ impl OpenLoops {
         &'a self,
         bindings: &'a Bindings,
         frame: usize,
-        name: &Sought<'_>,
-    ) -> Found<'a>
+        name: &NameRef<'_>,
+    ) -> FoundValue<'a>
         ensures { found_value result
             ≡ in_innermost name.now (turns_of bindings.now frame self.now) }
     {
         match &self.innermost {
-            Some(innermost) => in_turn(bindings, frame, self.around.len() + 1, innermost, name),
-            None => Found::Nothing,
+            Some(innermost) => look_in_turn(bindings, frame, self.around.len() + 1, innermost, name),
+            None => FoundValue::Unbound,
         }
     }
 
@@ -124,40 +124,40 @@ impl OpenLoops {
 
     /// What the turns of the loops of this frame bind. Takes no memory.
     #[inline(always)]
-    pub fn look<'a>(&'a self, bindings: &'a Bindings, frame: usize, name: &Sought<'_>) -> Found<'a>
+    pub fn look<'a>(&'a self, bindings: &'a Bindings, frame: usize, name: &NameRef<'_>) -> FoundValue<'a>
         ensures { found_value result ≡ in_turns name.now (turns_of bindings.now frame self.now) }
     {
         match &self.innermost {
             Some(innermost) => {
                 let layer = self.around.len() + 1;
-                match in_turn(bindings, frame, layer, innermost, name) {
-                    Found::Nothing => {
-                        in_outer(bindings, frame, &self.around, self.around.len(), name)
+                match look_in_turn(bindings, frame, layer, innermost, name) {
+                    FoundValue::Unbound => {
+                        look_in_outer_turns(bindings, frame, &self.around, self.around.len(), name)
                     }
                     found => found,
                 }
             }
-            None => Found::Nothing,
+            None => FoundValue::Unbound,
         }
     }
 }
 
 // What a turn binds, which is the layer-th of its frame.
 #[inline(always)]
-fn in_turn<'a>(
+fn look_in_turn<'a>(
     bindings: &'a Bindings,
     frame: usize,
     layer: usize,
     turn: &'a ForLoop,
-    name: &Sought<'_>,
-) -> Found<'a>
+    name: &NameRef<'_>,
+) -> FoundValue<'a>
     ensures { found_value result
         ≡ in_turn name.now (turn_of (layer_of bindings.now frame layer) turn.now) }
 {
     match turn.counter(name) {
-        Found::Nothing => match bindings.get(frame, layer, name) {
-            Some(value) => Found::Kept(value),
-            None => turn.named(name),
+        FoundValue::Unbound => match bindings.get(frame, layer, name) {
+            Some(value) => FoundValue::Kept(value),
+            None => turn.loop_value(name),
         },
         counted => counted,
     }
@@ -175,10 +175,10 @@ fn value_in_turn<'a>(
     ensures { IfSome result (λ value. in_turn name.now
         (turn_of (layer_of bindings.now frame layer) turn.now) ≡ Some value.now) }
 {
-    match turn.counter(&name.sought()) {
-        Found::Nothing => match bindings.value_of(frame, layer, name) {
+    match turn.counter(&name.as_name_ref()) {
+        FoundValue::Unbound => match bindings.value_of(frame, layer, name) {
             Some(value) => Some(value),
-            None => turn.named(&name.sought()).value(),
+            None => turn.loop_value(&name.as_name_ref()).value(),
         },
         _ => None,
     }
@@ -186,23 +186,23 @@ fn value_in_turn<'a>(
 
 // What the turns of the outer loops bind, up to a layer.
 #[inline(never)]
-fn in_outer<'a>(
+fn look_in_outer_turns<'a>(
     bindings: &'a Bindings,
     frame: usize,
     loops: &'a Stack<ForLoop>,
     layer: usize,
-    name: &Sought<'_>,
-) -> Found<'a>
+    name: &NameRef<'_>,
+) -> FoundValue<'a>
     requires { layer ≤ length loops.now }
     ensures { found_value result
         ≡ in_turns name.now (turns_of bindings.now frame (lower layer loops.now)) }
 {
     if layer == 0 {
-        return Found::Nothing;
+        return FoundValue::Unbound;
     }
     let turn = loops.at_height(layer - 1);
-    match in_turn(bindings, frame, layer, turn, name) {
-        Found::Nothing => in_outer(bindings, frame, loops, layer - 1, name),
+    match look_in_turn(bindings, frame, layer, turn, name) {
+        FoundValue::Unbound => look_in_outer_turns(bindings, frame, loops, layer - 1, name),
         found => found,
     }
 }

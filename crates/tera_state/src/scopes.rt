@@ -2,26 +2,26 @@
 ghost use Rattle.std.specs.Prelude.{◌≡◌, Ok, ◌≤◌, ◌≢◌, ◌↔◌, ◌∷◌, [], suc, OnOk, OnErr, IfErr, IfSome, IsTrue, MatchOption, length, drop, unwrap_or, option_copied, None};
 ghost use Rattle.tera_errors.specs.Prelude.{Gives, Lacks};
 ghost use Rattle.tera_values.specs.Prelude.{undefined};
-ghost use Rattle.tera_state.specs.Found.{found_value};
+ghost use Rattle.tera_state.specs.FoundValue.{found_value};
 ghost use Rattle.tera_state.specs.Bound.{without_frame};
-ghost use Rattle.tera_state.specs.Lent.{names_of};
+ghost use Rattle.tera_state.specs.ContextRef.{names_of};
 ghost use Rattle.tera_state.specs.Scope.{look, look_implicit, in_variables, in_innermost, set_variable, set_global, open_turn, close_turn, nothing_set, outside, in_include, in_component, put_turns, dump};
 ghost use Rattle.tera_state.specs.Opened.{turn_of, to_come};
 ghost use Rattle.tera_state.specs.Stack.{lower};
-ghost use Rattle.tera_state.specs.declared.frame.Standing.TheVariants as stands;
+ghost use Rattle.tera_state.specs.declared.frame.FrameKind.TheVariants as stands;
 ghost use Rattle.tera_state.specs.Scopes.{begun, bound_at, bound_above_at, handed_at, PassesOn, variables_at, context_of, variables_of, around_of, coming_of, coming_around, own_global, TakesTurn};
 
 use crate::bindings::Bindings;
 use crate::contexts::Contexts;
-use crate::found::Found;
-use crate::frame::{Frame, Standing};
-use crate::lent_names::Lent;
+use crate::found_value::FoundValue;
+use crate::frame::{Frame, FrameKind};
+use crate::context_ref::ContextRef;
 use crate::loops::ForLoop;
 use crate::open_loops::OpenLoops;
 use crate::stack::Stack;
 use std::alloc::{AllocError, Global};
 use std::mem::replace;
-use tera_values::{Context, Kwargs, Name, Sought, TeraResult, Value};
+use tera_values::{Context, Kwargs, Name, NameRef, TeraResult, Value};
 
 /// The body that runs, those above it, and all that they set.
 #[derive(Drop)]
@@ -34,40 +34,40 @@ pub struct Scopes<'c> {
 
 // What a body binds.
 #[inline(always)]
-fn in_body<'a>(
+fn look_in_variables<'a>(
     bindings: &'a Bindings,
     frame: usize,
     body: &'a Frame<'_>,
-    name: &Sought<'_>,
-) -> Found<'a>
+    name: &NameRef<'_>,
+) -> FoundValue<'a>
     ensures { found_value result
         ≡ in_variables name.now (variables_at bindings.now frame body.now) }
 {
     match body.loops.look(bindings, frame, name) {
-        Found::Nothing => kept(bindings.get(frame, 0, name)),
+        FoundValue::Unbound => found_from(bindings.get(frame, 0, name)),
         found => found,
     }
 }
 
-fn kept<'a>(value: Option<&'a Value>) -> Found<'a>
+fn found_from<'a>(value: Option<&'a Value>) -> FoundValue<'a>
     ensures { found_value result ≡ option_copied value.entry }
 {
     match value {
-        Some(value) => Found::Kept(value),
-        None => Found::Nothing,
+        Some(value) => FoundValue::Kept(value),
+        None => FoundValue::Unbound,
     }
 }
 
 // The context of what is no include: that has its includer's.
 #[inline(always)]
-fn own_context<'a>(standing: &'a Standing<'_>) -> Option<Lent<'a>>
-    ensures { MatchOption result (standing.now ≡ stands.Included)
+fn own_context<'a>(standing: &'a FrameKind<'_>) -> Option<ContextRef<'a>>
+    ensures { MatchOption result (standing.now ≡ stands.Include)
         (λ context. (below : _) → context ≡ context_of standing.now below) }
 {
     match standing {
-        Standing::Whole(contexts) => Some(contexts.context()),
-        Standing::Called(arguments) => Some(Lent::arguments(arguments)),
-        Standing::Included => None,
+        FrameKind::Template(contexts) => Some(contexts.context()),
+        FrameKind::Component(arguments) => Some(ContextRef::of_arguments(arguments)),
+        FrameKind::Include => None,
     }
 }
 
@@ -75,7 +75,7 @@ impl<'c> Scopes<'c> {
     /// What the name stands for. Takes no memory and copies nothing. Most names are those of the innermost turn, which is
     /// asked without a call.
     #[inline(always)]
-    pub fn look(&self, name: &Sought<'_>) -> Found<'_>
+    pub fn look(&self, name: &NameRef<'_>) -> FoundValue<'_>
         ensures { unwrap_or (found_value result) undefined
             ≡ look name.now (around_of self.now) (variables_of self.now) }
     {
@@ -85,7 +85,7 @@ impl<'c> Scopes<'c> {
             .loops
             .look_innermost(&self.bindings, height, name)
         {
-            Found::Nothing => self.look_beyond(height, name),
+            FoundValue::Unbound => self.look_outside_turn(height, name),
             found => found,
         }
     }
@@ -104,48 +104,48 @@ impl<'c> Scopes<'c> {
     // The same of a name that the innermost turn does not bind. Where no other loop is open and nothing is set, a
     // template by itself asks its contexts at once.
     #[inline(never)]
-    fn look_beyond(&self, height: usize, name: &Sought<'_>) -> Found<'_>
+    fn look_outside_turn(&self, height: usize, name: &NameRef<'_>) -> FoundValue<'_>
         requires height { height ≡ length self.now.below }
         requires beyond { in_innermost name.now (variables_of self.now).turns ≡ None }
         ensures { found_value result ≡ bound_at self.now height self.now.frame name.now }
     {
         if self.bindings.is_empty() && self.frame.loops.len() <= 1 {
-            if let Standing::Whole(contexts) = &self.frame.standing {
-                return kept(contexts.get(name));
+            if let FrameKind::Template(contexts) = &self.frame.standing {
+                return found_from(contexts.get(name));
             }
         }
-        self.bound_at(height, &self.frame, name)
+        self.look_in_frame(height, &self.frame, name)
     }
 
     // What a body with so many frames below it has the name stand for.
-    fn bound_at<'a>(&'a self, height: usize, body: &'a Frame<'c>, name: &Sought<'_>) -> Found<'a>
+    fn look_in_frame<'a>(&'a self, height: usize, body: &'a Frame<'c>, name: &NameRef<'_>) -> FoundValue<'a>
         requires { height ≤ length self.now.below }
         ensures { found_value result ≡ bound_at self.now height body.now name.now }
     {
-        match self.own_at(height, body, name) {
+        match self.look_in_own_frame(height, body, name) {
             Some(found) => found,
-            None => self.handed_at(height, name),
+            None => self.look_in_includers(height, name),
         }
     }
 
     // The same, but for an include that binds nothing itself and so has what its includer hands down.
     #[inline(always)]
-    fn own_at<'a>(
+    fn look_in_own_frame<'a>(
         &'a self,
         height: usize,
         body: &'a Frame<'c>,
-        name: &Sought<'_>,
-    ) -> Option<Found<'a>>
+        name: &NameRef<'_>,
+    ) -> Option<FoundValue<'a>>
         requires { height ≤ length self.now.below }
         ensures { MatchOption result
             (PassesOn self.now height body.now name.now)
             (λ found. found_value found ≡ bound_at self.now height body.now name.now) }
     {
-        match in_body(&self.bindings, height, body, name) {
-            Found::Nothing => match &body.standing {
-                Standing::Whole(contexts) => Some(kept(contexts.get(name))),
-                Standing::Called(arguments) => Some(kept(arguments.look(name))),
-                Standing::Included => None,
+        match look_in_variables(&self.bindings, height, body, name) {
+            FoundValue::Unbound => match &body.standing {
+                FrameKind::Template(contexts) => Some(found_from(contexts.get(name))),
+                FrameKind::Component(arguments) => Some(found_from(arguments.look(name))),
+                FrameKind::Include => None,
             },
             found => Some(found),
         }
@@ -153,7 +153,7 @@ impl<'c> Scopes<'c> {
 
     // What an include with so many frames below it is handed down: the first of them answers that does not pass the name on, or
     // its context, where that answer is undefined.
-    fn handed_at<'a>(&'a self, height: usize, name: &Sought<'_>) -> Found<'a>
+    fn look_in_includers<'a>(&'a self, height: usize, name: &NameRef<'_>) -> FoundValue<'a>
         requires { height ≤ length self.now.below }
         ensures { found_value result ≡ handed_at self.now height name.now }
     {
@@ -161,47 +161,47 @@ impl<'c> Scopes<'c> {
         'down: while left > 0 {
             left -= 1;
             let includer = self.below.at_height(left);
-            if let Some(found) = self.own_at(left, includer, name) {
+            if let Some(found) = self.look_in_own_frame(left, includer, name) {
                 if found.is_undefined() {
-                    return kept(self.context_at(left, includer).get(name));
+                    return found_from(self.context_at(left, includer).get(name));
                 }
                 return found;
             }
         }
-        Found::Nothing
+        FoundValue::Unbound
     }
 
     /// What the name stands for here, or else in the bodies above this one: the first value that is not undefined. Takes no
     /// memory.
-    pub fn look_implicit(&self, name: &Sought<'_>) -> Found<'_>
+    pub fn look_implicit(&self, name: &NameRef<'_>) -> FoundValue<'_>
         ensures { unwrap_or (found_value result) undefined
             ≡ look_implicit name.now (around_of self.now) (variables_of self.now) }
     {
-        self.implicit_at(self.below.len(), &self.frame, name)
+        self.look_implicit_in_frame(self.below.len(), &self.frame, name)
     }
 
     // The same from a body with so many frames below it.
-    fn implicit_at<'a>(&'a self, height: usize, body: &'a Frame<'c>, name: &Sought<'_>) -> Found<'a>
+    fn look_implicit_in_frame<'a>(&'a self, height: usize, body: &'a Frame<'c>, name: &NameRef<'_>) -> FoundValue<'a>
         requires { height ≤ length self.now.below }
         ensures { found_value result ≡ bound_above_at self.now height body.now name.now }
     {
-        let found = self.bound_at(height, body, name);
+        let found = self.look_in_frame(height, body, name);
         if !found.is_undefined() {
             return found;
         }
         let mut left = height;
         'up: while left > 0 {
             left -= 1;
-            let found = self.bound_at(left, self.below.at_height(left), name);
+            let found = self.look_in_frame(left, self.below.at_height(left), name);
             if !found.is_undefined() {
                 return found;
             }
         }
-        Found::Nothing
+        FoundValue::Unbound
     }
 
     // The context of a body with so many frames below it.
-    fn context_at<'a>(&'a self, height: usize, body: &'a Frame<'c>) -> Lent<'a>
+    fn context_at<'a>(&'a self, height: usize, body: &'a Frame<'c>) -> ContextRef<'a>
         requires { height ≤ length self.now.below }
         ensures { result ≡ context_of body.now.standing (lower height self.now.below) }
     {
@@ -215,14 +215,14 @@ impl<'c> Scopes<'c> {
                 return context;
             }
         }
-        Lent::new(None)
+        ContextRef::new(None)
     }
 
     /// What `__tera_context` stands for: the map of all that this body itself binds, the names of its loops excepted.
     pub fn dump(&self, alloc: Global) -> TeraResult<Value>
         ensures { Gives (λ v. v) result (Ok (dump (around_of self.now) (variables_of self.now))) }
     {
-        let mut names = self.global(alloc)?;
+        let mut names = self.global_context(alloc)?;
         let height = self.below.len();
         self.context_at(height, &self.frame).put_into(&mut names)?;
         self.bindings.put_layer(height, 0, &mut names)?;
@@ -231,13 +231,13 @@ impl<'c> Scopes<'c> {
     }
 
     // A copy of the global context of the body that runs.
-    fn global(&self, alloc: Global) -> TeraResult<Context>
+    fn global_context(&self, alloc: Global) -> TeraResult<Context>
         ensures { Gives (λ c. c) result (Ok (own_global self.now.frame.standing)) }
     {
         match &self.frame.standing {
-            Standing::Whole(contexts) => contexts.global(alloc),
-            Standing::Called(_) => Ok(Context::new(alloc)),
-            Standing::Included => Ok(Context::new(alloc)),
+            FrameKind::Template(contexts) => contexts.global_context(alloc),
+            FrameKind::Component(_) => Ok(Context::new(alloc)),
+            FrameKind::Include => Ok(Context::new(alloc)),
         }
     }
 
@@ -264,10 +264,10 @@ impl<'c> Scopes<'c> {
             alloc,
             bindings: Bindings::new(alloc),
             frame: Frame {
-                standing: Standing::Whole(Contexts::new(
+                standing: FrameKind::Template(Contexts::new(
                     alloc,
-                    Lent::new(Some(context)),
-                    Lent::new(global),
+                    ContextRef::new(Some(context)),
+                    ContextRef::new(global),
                 )),
                 loops: OpenLoops::new(alloc),
             },
@@ -281,9 +281,9 @@ impl<'c> Scopes<'c> {
         ensures { self.new ≡ self.old }
     {
         match &mut self.frame.standing {
-            Standing::Whole(contexts) => contexts.note_all(names),
-            Standing::Included => Ok(()),
-            Standing::Called(_) => Ok(()),
+            FrameKind::Template(contexts) => contexts.note_all(names),
+            FrameKind::Include => Ok(()),
+            FrameKind::Component(_) => Ok(()),
         }
     }
 
@@ -375,7 +375,7 @@ impl<'c> Scopes<'c> {
         ensures outer { OnOk result (coming_around self.new
             ≡ coming_of self.old ∷ coming_around self.old) }
     {
-        self.enter(Standing::Included)
+        self.enter(FrameKind::Include)
     }
 
     /// Begins a component, which reads the arguments alone.
@@ -387,10 +387,10 @@ impl<'c> Scopes<'c> {
         ensures outer { OnOk result (coming_around self.new
             ≡ coming_of self.old ∷ coming_around self.old) }
     {
-        self.enter(Standing::Called(arguments))
+        self.enter(FrameKind::Component(arguments))
     }
 
-    fn enter(&mut self, inner: Standing<'c>) -> Result<(), AllocError>
+    fn enter(&mut self, inner: FrameKind<'c>) -> Result<(), AllocError>
         ensures frame { OnOk result (self.new.frame ≡ begun inner.entry) }
         ensures below { OnOk result (self.new.below ≡ self.old.frame ∷ self.old.below) }
         ensures bindings { OnOk result (self.new.bindings
@@ -414,6 +414,6 @@ impl<'c> Scopes<'c> {
         ensures coming { coming_around self.old ≡ coming_of self.new ∷ coming_around self.new }
     {
         self.bindings.clear_frame(self.below.len());
-        self.frame = self.below.take();
+        self.frame = self.below.pop_top();
     }
 }

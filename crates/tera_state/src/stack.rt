@@ -54,7 +54,7 @@ impl<T: Drop> Stack<T> {
 
     /// The topmost value, taken off, where it is known that there is one.
     #[inline(always)]
-    pub fn take(&mut self) -> T
+    pub fn pop_top(&mut self) -> T
         requires { self.old ≢ [] }
         ensures { self.old ≡ result ∷ self.new }
     {

@@ -4,37 +4,37 @@ ghost use Rattle.std.specs.List.{list_any};
 ghost use Rattle.tera_errors.specs.Prelude.{Gives, Tells, message};
 ghost use Rattle.tera_values.specs.Prelude.{undefined, is_undefined, plain, escape_html};
 ghost use Rattle.tera_built_ins.specs.Prelude.{escape_or_html, escaping_of, filter_in};
-ghost use Rattle.tera_state.specs.Found.{found_value};
+ghost use Rattle.tera_state.specs.FoundValue.{found_value};
 ghost use Rattle.tera_state.specs.View.{filters_left};
 
-use crate::found::Found;
-use crate::rendered::write_value;
+use crate::found_value::FoundValue;
+use crate::writing::write_value;
 use crate::scopes::Scopes;
 use std::alloc::Global;
 use tera_built_ins::{BuiltInFilter, EscapeFn, Escaping};
 use tera_values::{
-    ArgFromValue, Context, Error, Kwargs, Name, Sought, TeraResult, Value, WritesValues,
+    ArgFromValue, Context, Error, Kwargs, Name, NameRef, TeraResult, Value, WritesValues,
 };
 
 /// Where names are looked up: in a context alone, or in the scopes of a rendering.
 #[derive(Drop)]
-enum Source<'a, 'c> {
-    Alone(&'a Context),
-    Open(&'a Scopes<'c>),
+enum StateSource<'a, 'c> {
+    Context(&'a Context),
+    Scopes(&'a Scopes<'c>),
 }
 
-impl<'a, 'c> Source<'a, 'c> {
+impl<'a, 'c> StateSource<'a, 'c> {
     ghost use Rattle.tera_state.specs.View.{look_in_source};
 
-    fn look(&self, name: &str) -> Found<'_>
+    fn look(&self, name: &str) -> FoundValue<'_>
         ensures { unwrap_or (found_value result) undefined ≡ look_in_source self.now name.now }
     {
         match self {
-            Source::Alone(context) => match context.get(name) {
-                Some(value) => Found::Kept(value),
-                None => Found::Nothing,
+            StateSource::Context(context) => match context.get(name) {
+                Some(value) => FoundValue::Kept(value),
+                None => FoundValue::Unbound,
             },
-            Source::Open(scopes) => scopes.look(&Sought::new(name)),
+            StateSource::Scopes(scopes) => scopes.look(&NameRef::new(name)),
         }
     }
 }
@@ -46,7 +46,7 @@ fn filter_left(taken: &[Name], name: &str) -> Option<BuiltInFilter>
     if is_among(taken, name) {
         return None;
     }
-    BuiltInFilter::named(name)
+    BuiltInFilter::by_name(name)
 }
 
 fn is_among(names: &[Name], name: &str) -> bool
@@ -61,7 +61,7 @@ fn is_among(names: &[Name], name: &str) -> bool
 #[derive(Drop)]
 pub struct StateOver<'a, 'c, E> {
     alloc: Global,
-    source: Source<'a, 'c>,
+    source: StateSource<'a, 'c>,
     autoescape: bool,
     escape: Option<E>,
     taken: Option<&'a [Name]>,
@@ -81,7 +81,7 @@ impl<'a, 'c, E: EscapeFn> StateOver<'a, 'c, E> {
     {
         StateOver {
             alloc: context.alloc(),
-            source: Source::Alone(context),
+            source: StateSource::Context(context),
             autoescape: true,
             escape: None,
             taken: None,
@@ -107,7 +107,7 @@ impl<'a, 'c, E: EscapeFn> StateOver<'a, 'c, E> {
             return Ok(None);
         }
         match &found {
-            Found::Kept(value) => Ok(Some(T::from_value(self.alloc, value)?)),
+            FoundValue::Kept(value) => Ok(Some(T::from_value(self.alloc, value)?)),
             _ => Ok(Some(T::from_value(self.alloc, &found.to_value(self.alloc)?)?)),
         }
     }
@@ -150,7 +150,7 @@ impl<'a, 'c, E: EscapeFn> StateOver<'a, 'c, E> {
             (filter_in plain (escaping_in view) (view.filters name.now) value.now kwargs) }
     {
         match self.filter(name) {
-            Some(filter) => match filter.call(self.alloc, value, &kwargs.lent(), self.escaping()) {
+            Some(filter) => match filter.call(self.alloc, value, &kwargs.as_arguments(), self.escaping()) {
                 Ok(answer) => Ok(answer),
                 Err(error) => Err(error.of_callee(self.alloc, "filter", name)),
             },
@@ -159,7 +159,7 @@ impl<'a, 'c, E: EscapeFn> StateOver<'a, 'c, E> {
     }
 
     // What the name stands for.
-    pub(crate) fn look(&self, name: &str) -> Found<'_>
+    pub(crate) fn look(&self, name: &str) -> FoundValue<'_>
         ensures { unwrap_or (found_value result) undefined
             ≡ (view_of E.escaped self.now).look name.now }
     {
@@ -215,7 +215,7 @@ impl<'c> Scopes<'c> {
     {
         StateOver {
             alloc: self.alloc,
-            source: Source::Open(self),
+            source: StateSource::Scopes(self),
             autoescape,
             escape,
             taken,

@@ -15,7 +15,7 @@ use Rattle.tera_syntax.specs.Grammar.{join}
 use Rattle.tera_syntax.specs.Reader.{OpenStatement, closed, one, shut, divided}
 use Rattle.tera_syntax.specs.Parts.{none_open}
 use Rattle.tera_syntax.specs.View.{statement_of, statements_of, head_of}
-use Rattle.tera_syntax.specs.declared.progress.OpenStatement as statement
+use Rattle.tera_syntax.specs.declared.open_statements.OpenStatement as statement
 
 zero-not : (n : ℕ) → (suc n == 0) ≡ false
 zero-not n = go (suc n == 0) (Decides-eqb (suc n) 0).0

@@ -19,8 +19,8 @@ use Rattle.tera_syntax.specs.declared.blocks.PlacedName.{PlacedName}
 use Rattle.tera_syntax.specs.declared.file.File as file
 use Rattle.tera_syntax.specs.declared.heads.Head as head
 use Rattle.tera_syntax.specs.declared.heads.Head.TheVariants as variant
-use Rattle.tera_syntax.specs.declared.progress.OpenStatement as statement
-use Rattle.tera_syntax.specs.declared.progress.Progress as progress
+use Rattle.tera_syntax.specs.declared.open_statements.OpenStatement as statement
+use Rattle.tera_syntax.specs.declared.open_statements.OpenStatements as progress
 use Rattle.tera_syntax.specs.declared.parts.OpenComponent as component
 use Rattle.tera_syntax.specs.declared.parts.Parts as parts
 

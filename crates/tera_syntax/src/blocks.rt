@@ -122,18 +122,18 @@ fn gather_component<'s>(
 }
 
 /// Where the first name that stands again stands next, if one does.
-fn twice(alloc: Global, names: &[PlacedName<'_>]) -> Result<Option<Span>, Refusal>
+fn first_repeat(alloc: Global, names: &[PlacedName<'_>]) -> Result<Option<Span>, Refusal>
     ensures ok { IfOk result (λ found. found ≡ again (names_of names.now)) }
     ensures lacks { IfErr result (λ refusal. refusal ≡ OutOfMemory) }
 {
     if names.len() > FEW_NAMES {
-        return twice_in_many(alloc, names);
+        return first_repeat_in_many(alloc, names);
     }
-    Ok(twice_in_few(names))
+    Ok(first_repeat_in_few(names))
 }
 
 /// The same in few names: each is compared with those behind it.
-fn twice_in_few(names: &[PlacedName<'_>]) -> Option<Span>
+fn first_repeat_in_few(names: &[PlacedName<'_>]) -> Option<Span>
     ensures { result ≡ again (names_of names.now) }
 {
     for at in 0..names.len() {
@@ -158,7 +158,7 @@ fn first_at(name: &str, names: &[PlacedName<'_>]) -> Option<Span>
 }
 
 /// The same in names that may be many: they are read from behind, beside where each of them stands first of all that was read.
-fn twice_in_many(alloc: Global, names: &[PlacedName<'_>]) -> Result<Option<Span>, Refusal>
+fn first_repeat_in_many(alloc: Global, names: &[PlacedName<'_>]) -> Result<Option<Span>, Refusal>
     ensures ok { IfOk result (λ found. found ≡ again (names_of names.now)) }
     ensures lacks { IfErr result (λ refusal. refusal ≡ OutOfMemory) }
 {
@@ -175,18 +175,18 @@ fn twice_in_many(alloc: Global, names: &[PlacedName<'_>]) -> Result<Option<Span>
 }
 
 /// Refuses names of which two are the same, for this reason, where the second stands.
-fn all_differ(alloc: Global, names: &[PlacedName<'_>], why: Reason) -> Result<(), Refusal>
+fn refuse_repeats(alloc: Global, names: &[PlacedName<'_>], why: Reason) -> Result<(), Refusal>
     ensures value { RefusesOnly (doubled why (names_of names.now)) result }
     ensures points { (size : ℕ) → NamesWithin size names.now → IfErr result (PointsWithin size) }
 {
-    match twice(alloc, names)? {
+    match first_repeat(alloc, names)? {
         None => Ok(()),
         Some(span) => Err(Refusal::Syntax(why, span)),
     }
 }
 
 /// The tree, where no two of its blocks have one name, and no two of its components.
-pub(crate) fn once<'s>(alloc: Global, output: ParserOutput<'s>) -> Result<ParserOutput<'s>, Refusal>
+pub(crate) fn with_distinct_names<'s>(alloc: Global, output: ParserOutput<'s>) -> Result<ParserOutput<'s>, Refusal>
     ensures value { Answers tree_of (spec.once (tree_of output.entry)) result }
     ensures refused { RefusesOnly (tree_doubled (tree_of output.entry)) result }
     ensures points { (size : ℕ) → Inside size (tree_of output.entry)
@@ -194,9 +194,9 @@ pub(crate) fn once<'s>(alloc: Global, output: ParserOutput<'s>) -> Result<Parser
 {
     let mut blocks = Vec::new(alloc);
     gather(&mut blocks, output.nodes.as_slice())?;
-    all_differ(alloc, blocks.as_slice(), Reason::BlockTwice)?;
+    refuse_repeats(alloc, blocks.as_slice(), Reason::BlockTwice)?;
     let mut components = Vec::new(alloc);
     gather_components(&mut components, output.component_definitions.as_slice())?;
-    all_differ(alloc, components.as_slice(), Reason::ComponentTwice)?;
+    refuse_repeats(alloc, components.as_slice(), Reason::ComponentTwice)?;
     Ok(output)
 }

@@ -6,7 +6,7 @@ ghost use Rattle.tera_syntax_tokens.specs.Prelude.{Answers, begin, input, tokens
 ghost use Rattle.tera_syntax_tree.specs.Depth.{max_tree_depth};
 
 use crate::heads::Head;
-use crate::progress::Progress;
+use crate::open_statements::OpenStatements;
 use std::alloc::Global;
 use tera_syntax_expressions::components::attributes;
 use tera_syntax_tokens::refusal::{Reason, Refusal};
@@ -16,7 +16,7 @@ use tera_syntax_tree::ComponentTag;
 
 /// A tag that begins with `<`.
 pub(crate) fn call<'s>(
-    progress: &mut Progress<'s>,
+    progress: &mut OpenStatements<'s>,
     alloc: Global,
     tag: &[Token<'s>],
 ) -> Result<(), Refusal>
@@ -30,15 +30,15 @@ pub(crate) fn call<'s>(
     let start = ahead.start();
     ahead.take();
     if ahead.kind() == Kind::Slash {
-        return progress.shut(alloc, tag);
+        return progress.read_end(alloc, tag);
     }
-    let head = called(alloc, &mut ahead, progress.room(), start)?;
+    let head = call_head(alloc, &mut ahead, progress.room(), start)?;
     progress.open(alloc, false, head, tag)
 }
 
 /// The name of a component and its attributes, up to what closes the tag, which starts at a position.
 #[tactic(auto, unfolding(crate::specs::Reader::called))]
-fn called<'s>(
+fn call_head<'s>(
     alloc: Global,
     ahead: &mut Tokens<'_, 's>,
     limit: usize,

@@ -13,8 +13,8 @@ ghost use Rattle.tera_syntax_tree.specs.Prelude.{tree_of};
 use crate::heads::is_extends;
 use crate::parts::Parts;
 use crate::positions::PieceSpans;
-use crate::statements::behind;
-use crate::words::quoted_name;
+use crate::statements::tokens_after_first;
+use crate::word_statements::quoted_name;
 use std::alloc::Global;
 use tera_syntax_tokens::cut::Piece;
 use tera_syntax_tokens::refusal::Refusal;
@@ -88,7 +88,7 @@ impl<'s> File<'s> {
         match self.take(alloc, piece, tokens) {
             Ok(()) => Ok(()),
             Err(Refusal::Syntax(why, span)) => {
-                Err(Refusal::Syntax(why, spans.pointed(piece, span, tokens)))
+                Err(Refusal::Syntax(why, spans.refusal_span(piece, span, tokens)))
             }
             Err(Refusal::OutOfMemory) => Err(Refusal::OutOfMemory),
         }
@@ -111,7 +111,7 @@ impl<'s> File<'s> {
         ensures { let name = quoted_name (tokens_of tag.now) in
             FileBecomes (spec.extending (file_of self.old) name) result self.new }
     {
-        let mut ahead = behind(tag, false);
+        let mut ahead = tokens_after_first(tag, false);
         self.parent = Some(quoted_name(alloc, &mut ahead)?);
         self.is_front = false;
         Ok(())

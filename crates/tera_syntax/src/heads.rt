@@ -24,7 +24,7 @@ pub(crate) struct Surroundings {
 
 impl Surroundings {
     /// Nothing.
-    pub fn outside() -> Surroundings
+    pub fn at_top() -> Surroundings
         ensures { result ≡ spec.outside }
     {
         Surroundings {
@@ -71,7 +71,7 @@ impl<'s> Head<'s> {
     {
         match self {
             Head::If(condition) => Node::choice(condition, body, other),
-            Head::For(heading) => Node::each(heading, body, other),
+            Head::For(heading) => Node::for_loop(heading, body, other),
             Head::Set(captured, is_global) => Node::capture(captured, body, is_global),
             Head::Section(filters) => Node::filter_section(filters, body),
             Head::Block(name, span) => Node::block(name, body, span),
@@ -103,7 +103,7 @@ impl<'s> Head<'s> {
 
     /// What its body stands in. A block's body keeps the names of a loop around it, and can't leave
     /// a turn of that loop; the body that a component is handed can.
-    pub fn inside(&self, around: Surroundings) -> Surroundings
+    pub fn body_surroundings(&self, around: Surroundings) -> Surroundings
         ensures { result ≡ spec.inside (head_of self.now) around }
     {
         match self {
@@ -155,12 +155,12 @@ impl<'s> Head<'s> {
     pub fn is_ended_by(&self, tokens: &[Token<'_>]) -> bool
         ensures { result ≡ spec.ends (head_of self.now) (tokens_of tokens.now) }
     {
-        first(tokens) == self.end_kind() && self.is_end(tokens)
+        first_kind(tokens) == self.end_kind() && self.is_end(tokens)
     }
 }
 
 /// The kind of the first token.
-pub(crate) fn first(tokens: &[Token<'_>]) -> Kind
+pub(crate) fn first_kind(tokens: &[Token<'_>]) -> Kind
     ensures { result ≡ spec.first (tokens_of tokens.now) }
 {
     Tokens::begin(tokens, false).kind()
@@ -170,21 +170,21 @@ pub(crate) fn first(tokens: &[Token<'_>]) -> Kind
 pub(crate) fn is_extends(tag: &[Token<'_>]) -> bool
     ensures { result ≡ spec.is_extends (tokens_of tag.now) }
 {
-    first(tag) == Kind::Name && Tokens::begin(tag, false).text() == "extends"
+    first_kind(tag) == Kind::Name && Tokens::begin(tag, false).text() == "extends"
 }
 
 /// Whether a tag defines a component.
 pub(crate) fn is_component(tag: &[Token<'_>]) -> bool
     ensures { result ≡ spec.is_component (tokens_of tag.now) }
 {
-    first(tag) == Kind::Name && Tokens::begin(tag, false).text() == "component"
+    first_kind(tag) == Kind::Name && Tokens::begin(tag, false).text() == "component"
 }
 
 /// Whether the tag ends the definition of a component of this name, which may stand behind the word.
 pub(crate) fn ends_component(name: &str, tag: &[Token<'_>]) -> bool
     ensures { result ≡ spec.ends_component name.now (tokens_of tag.now) }
 {
-    first(tag) == Kind::Name
+    first_kind(tag) == Kind::Name
         && (is_alone("endcomponent", tag) || is_named("endcomponent", name, tag))
 }
 

@@ -8,16 +8,16 @@ mod heads;
 pub mod laws;
 mod parts;
 mod positions;
-mod progress;
+mod open_statements;
 pub mod reader;
 mod statements;
-mod told;
-mod words;
+mod refusal_words;
+mod word_statements;
 
 pub use reader::parse;
 pub use tera_components::{ComponentArg, ComponentDefinition, ComponentInfo};
 pub use tera_syntax_tree::{
-    Argument, ArgumentType, BinaryOperator, Block, DefinedComponent, Delimiters, Entry, Expression,
+    Argument, ArgumentType, BinaryOperator, Block, DefinedComponent, Delimiters, EntryExpression, Expression,
     Heading, Item, Literal, LiteralEntry, LiteralKey, Node, Parameter, ParserOutput, SectionFilter,
     Signature,
 };

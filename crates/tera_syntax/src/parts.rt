@@ -8,8 +8,8 @@ ghost use Rattle.tera_syntax_tree.specs.Depth.{max_tree_depth};
 ghost use Rattle.tera_syntax_tree.specs.Prelude.{definitions_of, nodes_of, signature_of};
 
 use crate::heads::{Surroundings, ends_component, is_component};
-use crate::progress::{MAX_TREE_DEPTH, Progress};
-use crate::statements::{behind, step};
+use crate::open_statements::{MAX_TREE_DEPTH, OpenStatements};
+use crate::statements::{tokens_after_first, step};
 use std::alloc::Global;
 use tera_errors::Span;
 use tera_syntax_expressions::parameters::signature;
@@ -36,12 +36,12 @@ pub(crate) struct Parts<'s> {
     /// The one that is open.
     component: Option<OpenComponent<'s>>,
     /// What was read of the nodes in it, or where none is open, of the text's own.
-    pub progress: Progress<'s>,
+    pub progress: OpenStatements<'s>,
 }
 
 /// A signature that is all from here to the end of the tag.
 #[tactic(auto, unfolding(crate::specs::Reader::signed))]
-fn signed<'s>(
+fn whole_signature<'s>(
     alloc: Global,
     tokens: &mut Tokens<'_, 's>,
     limit: usize,
@@ -63,7 +63,7 @@ impl<'s> Parts<'s> {
         Parts {
             definitions: Vec::new(alloc),
             component: None,
-            progress: Progress::begin(alloc),
+            progress: OpenStatements::begin(alloc),
         }
     }
 
@@ -125,11 +125,11 @@ impl<'s> Parts<'s> {
             let signature = reader.signed max_tree_depth (next (begin false (tokens_of tag.now))) in
             PartsBecome (option_map (spec.component_begun p) signature) result self.new }
     {
-        let mut ahead = behind(tag, false);
-        let signature = signed(alloc, &mut ahead, MAX_TREE_DEPTH)?;
+        let mut ahead = tokens_after_first(tag, false);
+        let signature = whole_signature(alloc, &mut ahead, MAX_TREE_DEPTH)?;
         let before = self
             .progress
-            .turn(Vec::new(alloc), Surroundings::in_component());
+            .switch_nodes(Vec::new(alloc), Surroundings::in_component());
         self.component = Some(OpenComponent {
             before,
             signature,
@@ -152,7 +152,7 @@ impl<'s> Parts<'s> {
             signature,
             opened: _,
         } = component;
-        let body = self.progress.turn(before, Surroundings::outside());
+        let body = self.progress.switch_nodes(before, Surroundings::at_top());
         self.definitions.push(DefinedComponent { signature, body })?;
         Ok(())
     }

@@ -43,21 +43,21 @@ impl PieceSpans {
     }
 
     /// Where a refusal points that reading the piece gave. The tokens are those of a tag.
-    pub fn pointed(&self, piece: Piece<'_>, span: Span, tokens: &[Token<'_>]) -> Span
+    pub fn refusal_span(&self, piece: Piece<'_>, span: Span, tokens: &[Token<'_>]) -> Span
         ensures { (size : ℕ) → StandsWithin size self.now
             → PieceInside size (piece_of tokens.now piece.entry) → Within size result }
     {
         match piece {
             Piece::Words(_, words) => words,
             Piece::Comment => self.whole,
-            Piece::Variable => self.in_tag(span, tokens),
-            Piece::Block => self.in_tag(span, tokens),
+            Piece::Variable => self.span_in_tag(span, tokens),
+            Piece::Block => self.span_in_tag(span, tokens),
         }
     }
 
     /// The same in a tag: at the token that starts where the refusal does. An empty tag is wrong as a whole, and where no
     /// token is left the end delimiter stands in the place of what is due.
-    fn in_tag(&self, span: Span, tokens: &[Token<'_>]) -> Span
+    fn span_in_tag(&self, span: Span, tokens: &[Token<'_>]) -> Span
         ensures { (size : ℕ) → StandsWithin size self.now
             → InOrder size 0 (tokens_of tokens.now) → Within size result }
     {
@@ -112,7 +112,7 @@ fn character_at(text: &str, at: usize, i: usize) -> Span
 
 /// A refusal that the cut of a text gave, which stands at the position: it points at the start of what has no end, or at the
 /// character that begins no token.
-pub(crate) fn pointed(refusal: Refusal, text: &str, at: usize) -> Refusal
+pub(crate) fn cut_refusal(refusal: Refusal, text: &str, at: usize) -> Refusal
     requires room { at + length text.now < 2 ^ 64 }
     requires points { PointsInto at text.now refusal }
     ensures same { IsSyntax result → IsSyntax refusal }
@@ -134,7 +134,7 @@ pub(crate) fn pointed(refusal: Refusal, text: &str, at: usize) -> Refusal
 
 /// A refusal that points at the tag of a block which begins at a position of the source. The tag is cut once more, so that nothing
 /// that is open has to keep where its first tag ends. Where no such tag begins there, the end of the source is told of.
-pub(crate) fn refused_at<'a>(
+pub(crate) fn refusal_at<'a>(
     tokens: &mut Vec<Token<'a>>,
     delimiters: &Delimiters,
     source: &'a str,

@@ -8,10 +8,10 @@ ghost use Rattle.tera_syntax_tokens.specs.Prelude.{Answers, pieces, PointsWithin
 ghost use Rattle.tera_syntax_tree.specs.Depth.{max_tree_depth};
 ghost use Rattle.tera_syntax_tree.specs.Prelude.{accepted, delimiters_of, Inside, tree_of};
 
-use crate::blocks::once;
+use crate::blocks::with_distinct_names;
 use crate::file::File;
-use crate::positions::{PieceSpans, pointed, refused_at};
-use crate::told::Text;
+use crate::positions::{PieceSpans, cut_refusal, refusal_at};
+use crate::refusal_words::UnreadText;
 use std::alloc::Global;
 use tera_errors::{Error, TeraResult};
 use tera_syntax_tokens::cut::next_piece;
@@ -20,7 +20,7 @@ use tera_syntax_tokens::token::Token;
 use tera_syntax_tree::{Delimiters, ParserOutput};
 
 /// The tree that was read, where the text ends here.
-fn ended<'s>(
+fn finish_file<'s>(
     tokens: &mut Vec<Token<'s>>,
     delimiters: &Delimiters,
     source: &'s str,
@@ -33,7 +33,7 @@ fn ended<'s>(
     match file.finish() {
         Ok(output) => Ok(output),
         Err(Refusal::Syntax(why, open)) => {
-            Err(refused_at(tokens, delimiters, source, why, open.start))
+            Err(refusal_at(tokens, delimiters, source, why, open.start))
         }
         Err(Refusal::OutOfMemory) => Err(Refusal::OutOfMemory),
     }
@@ -59,7 +59,7 @@ fn read<'s>(
     while !rest.is_empty() {
         let piece = match next_piece(&mut tokens, delimiters, rest, at, trims, opening) {
             Ok(piece) => piece,
-            Err(refusal) => return Err(pointed(refusal, rest, at)),
+            Err(refusal) => return Err(cut_refusal(refusal, rest, at)),
         };
         let spans = PieceSpans::new(delimiters, at, &piece);
         rest = piece.rest;
@@ -71,8 +71,8 @@ fn read<'s>(
             Err(refusal) => return Err(refusal),
         }
     }
-    let output = ended(&mut tokens, delimiters, source, file)?;
-    once(alloc, output)
+    let output = finish_file(&mut tokens, delimiters, source, file)?;
+    with_distinct_names(alloc, output)
 }
 
 /// Reads the text of a template. The tree borrows its names and texts from it.
@@ -95,7 +95,7 @@ pub fn parse<'s>(
     match read(alloc, delimiters, source) {
         Ok(output) => Ok(output),
         Err(Refusal::Syntax(why, span)) => {
-            Err(Text { source, delimiters }.unread(alloc, name, why, span))
+            Err(UnreadText { source, delimiters }.error_at(alloc, name, why, span))
         }
         Err(Refusal::OutOfMemory) => Err(Error::out_of_memory()),
     }

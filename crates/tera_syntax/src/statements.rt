@@ -7,14 +7,14 @@ ghost use Rattle.tera_syntax_tree.specs.Depth.{max_tree_depth};
 ghost use Rattle.tera_syntax_tree.specs.Prelude.{expr_of, filters_of, node_of};
 
 use crate::components::call;
-use crate::heads::{Head, first};
-use crate::progress::{Progress, refused};
-use crate::words::named;
+use crate::heads::{Head, first_kind};
+use crate::open_statements::{OpenStatements, refusal_of_tag};
+use crate::word_statements::statement_by_word;
 use std::alloc::Global;
 use tera_errors::Span;
 use tera_syntax_expressions::expressions::expr;
 use tera_syntax_expressions::filters::filters;
-use tera_syntax_expressions::headings::{LoopNames, names};
+use tera_syntax_expressions::headings::{HeadingNames, names};
 use tera_syntax_expressions::precedence;
 use tera_syntax_tokens::cut::{Piece, is_alone};
 use tera_syntax_tokens::refusal::{Reason, Refusal};
@@ -24,7 +24,7 @@ use tera_syntax_tree::{Expression, Heading, Node, SectionFilter};
 
 /// An expression that is all from here to the end of the tag.
 #[tactic(auto, unfolding(crate::specs::Reader::whole))]
-pub(crate) fn whole<'s>(
+pub(crate) fn whole_expression<'s>(
     alloc: Global,
     tokens: &mut Tokens<'_, 's>,
     limit: usize,
@@ -64,13 +64,13 @@ fn heading<'s>(
 ) -> Result<Box<Heading<'s>>, Refusal>
     ensures { Answers (λ b. heading_of b.value) (spec.looping limit (input tokens.old)) result }
 {
-    let LoopNames { key, name } = names(tokens)?;
-    let target = whole(alloc, tokens, limit)?;
+    let HeadingNames { key, name } = names(tokens)?;
+    let target = whole_expression(alloc, tokens, limit)?;
     Ok(Box::new(alloc, Heading { key, name, target })?)
 }
 
 /// What stands behind the first token of a tag.
-pub(crate) fn behind<'t, 's>(tag: &'t [Token<'s>], in_loop: bool) -> Tokens<'t, 's>
+pub(crate) fn tokens_after_first<'t, 's>(tag: &'t [Token<'s>], in_loop: bool) -> Tokens<'t, 's>
     ensures { input result ≡ next (begin in_loop (tokens_of tag.now)) }
 {
     let mut ahead = Tokens::begin(tag, in_loop);
@@ -80,7 +80,7 @@ pub(crate) fn behind<'t, 's>(tag: &'t [Token<'s>], in_loop: bool) -> Tokens<'t, 
 
 /// Puts a node behind those that were read.
 pub(crate) fn put<'s>(
-    progress: &mut Progress<'s>,
+    progress: &mut OpenStatements<'s>,
     node: Node<'s>,
     tag: &[Token<'_>],
 ) -> Result<(), Refusal>
@@ -88,7 +88,7 @@ pub(crate) fn put<'s>(
         result progress.new }
 {
     if !progress.has_room() {
-        return Err(refused(tag, Reason::TooDeep));
+        return Err(refusal_of_tag(tag, Reason::TooDeep));
     }
     progress.add(node)
 }
@@ -96,7 +96,7 @@ pub(crate) fn put<'s>(
 /// A statement, or a tag that belongs to one.
 #[tactic(auto, unfolding(crate::specs::Reader::statement, crate::specs::Reader::tag))]
 fn statement<'s>(
-    progress: &mut Progress<'s>,
+    progress: &mut OpenStatements<'s>,
     alloc: Global,
     tag: &[Token<'s>],
 ) -> Result<(), Refusal>
@@ -104,36 +104,36 @@ fn statement<'s>(
         let meant = spec.statement max_tree_depth so_far (tokens_of tag.now) in
         Becomes meant result progress.new }
 {
-    match first(tag) {
+    match first_kind(tag) {
         Kind::If => {
-            let mut ahead = behind(tag, progress.surroundings.in_loop);
-            let condition = whole(alloc, &mut ahead, progress.room())?;
+            let mut ahead = tokens_after_first(tag, progress.surroundings.in_loop);
+            let condition = whole_expression(alloc, &mut ahead, progress.room())?;
             let condition = Box::new(alloc, condition)?;
             progress.open(alloc, false, Head::If(condition), tag)
         }
         Kind::For => {
-            let mut ahead = behind(tag, progress.surroundings.in_loop);
+            let mut ahead = tokens_after_first(tag, progress.surroundings.in_loop);
             let heading = heading(alloc, &mut ahead, progress.room())?;
             progress.open(alloc, false, Head::For(heading), tag)
         }
         Kind::Elif => {
-            let mut ahead = behind(tag, progress.around().in_loop);
-            let condition = whole(alloc, &mut ahead, progress.room())?;
+            let mut ahead = tokens_after_first(tag, progress.outer_surroundings().in_loop);
+            let condition = whole_expression(alloc, &mut ahead, progress.room())?;
             let condition = Box::new(alloc, condition)?;
-            progress.go_on(alloc, tag)?;
+            progress.read_elif(alloc, tag)?;
             progress.open(alloc, true, Head::If(condition), tag)
         }
-        Kind::Else if is_alone("else", tag) => progress.split(alloc, tag),
+        Kind::Else if is_alone("else", tag) => progress.read_else(alloc, tag),
         Kind::Less => call(progress, alloc, tag),
         Kind::Name => {
             let word = Tokens::begin(tag, false).text();
-            named(progress, alloc, tag, word)
+            statement_by_word(progress, alloc, tag, word)
         }
-        _ => Err(refused(tag, Reason::NoStatement)),
+        _ => Err(refusal_of_tag(tag, Reason::NoStatement)),
     }
 }
 
-fn put_words<'s>(progress: &mut Progress<'s>, text: &'s str, span: Span) -> Result<(), Refusal>
+fn put_words<'s>(progress: &mut OpenStatements<'s>, text: &'s str, span: Span) -> Result<(), Refusal>
     ensures { let meant = spec.put_words max_tree_depth (progress_of progress.old) text.now span in
         Becomes meant result progress.new }
 {
@@ -162,7 +162,7 @@ fn lone_name<'s>(tag: &[Token<'s>]) -> Option<Token<'s>>
 }
 
 /// `{{ value }}`. No box is made for a name alone.
-fn print<'s>(progress: &mut Progress<'s>, alloc: Global, tag: &[Token<'s>]) -> Result<(), Refusal>
+fn print<'s>(progress: &mut OpenStatements<'s>, alloc: Global, tag: &[Token<'s>]) -> Result<(), Refusal>
     ensures { let s = progress_of progress.old in
         let tokens = tokens_of tag.now in
         let value = spec.whole (spec.room max_tree_depth s) (begin s.surroundings.in_loop tokens) in
@@ -175,7 +175,7 @@ fn print<'s>(progress: &mut Progress<'s>, alloc: Global, tag: &[Token<'s>]) -> R
         }),
         _ => {
             let mut ahead = Tokens::begin(tag, progress.surroundings.in_loop);
-            let value = whole(alloc, &mut ahead, progress.room())?;
+            let value = whole_expression(alloc, &mut ahead, progress.room())?;
             progress.add(Node::Print { value })
         }
     }
@@ -183,7 +183,7 @@ fn print<'s>(progress: &mut Progress<'s>, alloc: Global, tag: &[Token<'s>]) -> R
 
 /// Takes a piece more to what was read. The tokens are those of a tag.
 pub(crate) fn step<'s>(
-    progress: &mut Progress<'s>,
+    progress: &mut OpenStatements<'s>,
     alloc: Global,
     piece: Piece<'s>,
     tokens: &[Token<'s>],

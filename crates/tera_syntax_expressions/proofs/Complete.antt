@@ -231,7 +231,7 @@ mutual
       arguments-more (suc b) (expr b) n found (arguments_depth found) (with_it, w.0) i v (Some ((all, arguments_depth all), next a)) (argument-starts q) w.1 h
       (ap (λ m. r.arguments_from (suc b) (expr b) n with_it m (next v)) (sym w.2) ∙ goes-arguments u g b n le (omega arith))
 
-  pub goes-given : {all : Arguments} {i a : Input} → DerivesGiven all i a → (b : ℕ) → arguments_depth all ≤ b → r.given (suc b) (expr b) i ≡ Some ((all, arguments_depth all), a)
+  pub goes-given : {all : Arguments} {i a : Input} → DerivesGiven all i a → (b : ℕ) → arguments_depth all ≤ b → r.optional_arguments (suc b) (expr b) i ≡ Some ((all, arguments_depth all), a)
   goes-given (not_given {i = i} h) b le = given-none (suc b) (expr b) i h
   goes-given (given {i = i} {a = a} h d g) b le = given-some (suc b) (expr b) i h ∙ goes-arguments d g b (left (next i)) le (omega arith)
 
@@ -264,7 +264,7 @@ mutual
       condition-is limit (expr b) x i a q (whole 1 x (next i) a (goes d) en.0 en.1 (some-depth x) b le)
 
   goes-array : {xs : Items} {i a : Input} → DerivesItems xs i a → kind a ≡ k.RightBracket → (b from : ℕ) → depth (Array xs (span from (next a))) ≤ suc b
-      → r.bracketed (suc b) (expr b) from i ≡ Some (deep (Array xs (span from (next a))), next a)
+      → r.brackets (suc b) (expr b) from i ≡ Some (deep (Array xs (span from (next a))), next a)
   goes-array (none {i = i}) g b from le = empty-is (suc b) (expr b) from i g (omega arith)
   goes-array (one {s = s} {x = x} {i = i} {j = a} q) g b from le =
       let n1 = level-at needs (kind a) k.RightBracket 12 g closing-kinds.2 in

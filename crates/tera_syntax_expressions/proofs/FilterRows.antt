@@ -43,7 +43,7 @@ sifted-more found n all at fs d j =
     ∙ ap (λ m. sifted (join_filters found (MoreFilters n all at fs)) m j) e
 
 module _ (limit : ℕ) (sub : ℕ → Parser Deep) where
-  pub filter_read : (found : Filters) (i j : Input) (g : Arguments × ℕ) → is_word (kind i) ≡ true → r.given limit sub (next i) ≡ Some (g, j) → g.1 < limit
+  pub filter_read : (found : Filters) (i j : Input) (g : Arguments × ℕ) → is_word (kind i) ≡ true → r.optional_arguments limit sub (next i) ≡ Some (g, j) → g.1 < limit
       → r.section_filter limit sub found i ≡ Some ((join_filters found (one_filter (text i) g.0 (span (start i) j)), g.1 + 1), j)
   unfolding r.section_filter
   filter_read found i j g h e lt = let t : nat_lt g.1 limit ≡ true = grind (arith, common_steps) in rw (h, e, t) refl
@@ -74,13 +74,13 @@ module _ (limit : ℕ) (sub : ℕ → Parser Deep) where
     filters_over {all = all} {b = b} {j = j} e h f = filters_round e ∙ filters_end (n - (at + 1)) d (all, b) j h ∙ ap (λ m. Some ((all, m), j)) (sym f)
 
   -- what is derived is read: the last filter, and one with more behind it
-  pub filter-last : (n : ℕ) (found : Filters) (d : ℕ) (all : Arguments) (i j : Input) → is_word (kind i) ≡ true → r.given limit sub (next i) ≡ Some ((all, arguments_depth all), j) → suc (arguments_depth all) ≤ limit
+  pub filter-last : (n : ℕ) (found : Filters) (d : ℕ) (all : Arguments) (i j : Input) → is_word (kind i) ≡ true → r.optional_arguments limit sub (next i) ≡ Some ((all, arguments_depth all), j) → suc (arguments_depth all) ≤ limit
       → (kind j ≡ Bar → ⊥) → r.filters_from limit sub (suc n) found d i ≡ sifted (join_filters found (one_filter (text i) all (span (start i) j))) (max d (arguments_depth all + 1)) j
   filter-last n found d all i j h e le f =
       filters_next n found d i ∙ ap (λ o. and_then o (filters_behind n d)) (filter_read found i j (all, arguments_depth all) h e (omega arith))
       ∙ filters_end n d (join_filters found (one_filter (text i) all (span (start i) j)), arguments_depth all + 1) j (unlike Bar (kind j) f)
 
-  pub filter-more : (n : ℕ) (found : Filters) (d : ℕ) (all : Arguments) (i j : Input) → is_word (kind i) ≡ true → r.given limit sub (next i) ≡ Some ((all, arguments_depth all), j) → suc (arguments_depth all) ≤ limit
+  pub filter-more : (n : ℕ) (found : Filters) (d : ℕ) (all : Arguments) (i j : Input) → is_word (kind i) ≡ true → r.optional_arguments limit sub (next i) ≡ Some ((all, arguments_depth all), j) → suc (arguments_depth all) ≤ limit
       → kind j ≡ Bar → r.filters_from limit sub (suc n) found d i ≡ r.filters_from limit sub n (join_filters found (one_filter (text i) all (span (start i) j))) (max d (arguments_depth all + 1)) (next j)
   filter-more n found d all i j h e le f =
       filters_next n found d i ∙ ap (λ o. and_then o (filters_behind n d)) (filter_read found i j (all, arguments_depth all) h e (omega arith))

@@ -14,7 +14,7 @@ use Rattle.tera_syntax_expressions.specs.Keys.{key_at}
 use Rattle.tera_syntax_expressions.specs.Grammar.{Operator, or, and, equal, not_equal, less, greater, less_or_equal, greater_or_equal, is_in, concat, add, subtract, multiply, divide, floor_divide, remainder, Dot, dot, optional_dot, Bracket, bracket, optional_bracket}
 use Rattle.tera_syntax_expressions.specs.Headings.{Calls}
 use Rattle.tera_syntax_expressions.specs.Expressions as r
-use Rattle.tera_syntax_expressions.specs.Expressions.{Deep, deep, expr, node, prefixed, infixed, applied, behind_dots, join_items, one_item, join_entries}
+use Rattle.tera_syntax_expressions.specs.Expressions.{Deep, deep, expr, node, prefix_form, infix_form, applied, behind_dots, join_items, one_item, join_entries}
 use Rattle.tera_syntax_expressions.proofs.Steps as steps
 use Rattle.tera_syntax_expressions.proofs.Steps.{differ, unlike, alike}
 use Rattle.tera_syntax_expressions.proofs.Extent.{key-kind}
@@ -38,12 +38,12 @@ module _ (limit : ℕ) (part : ℕ → Parser Deep) where
 
   pub infixed-is : (l : ℕ) (form : Expr → Expr → Span → Expr) (from : ℕ) (x y : Expr) (a j : Input) → depth (form x y (span from j)) ≡ suc (max (depth x) (depth y))
       → part l (next a) ≡ Some (deep y, j) → depth (form x y (span from j)) ≤ limit
-      → infixed limit part l form from (deep x) a ≡ Some (deep (form x y (span from j)), j)
-  unfolding infixed
+      → infix_form limit part l form from (deep x) a ≡ Some (deep (form x y (span from j)), j)
+  unfolding infix_form
   infixed-is l form from x y a j d h le =
       rw h (deep-node limit (max (depth x) (depth y)) (form x y (span from j)) j (omega arith) d)
 
-  pub operator-is : {s : Kind} {form : Expr → Expr → Span → Expr} {l : ℕ} (from : ℕ) (x : Deep) (a : Input) → Operator s form l → kind a ≡ s → r.operation limit part from x a ≡ infixed limit part (suc l) form from x a
+  pub operator-is : {s : Kind} {form : Expr → Expr → Span → Expr} {l : ℕ} (from : ℕ) (x : Deep) (a : Input) → Operator s form l → kind a ≡ s → r.operation limit part from x a ≡ infix_form limit part (suc l) form from x a
   unfolding r.operation applied
   operator-is from x a or h = ap (λ s. r.operation_by limit part from x s a) h
   operator-is from x a and h = ap (λ s. r.operation_by limit part from x s a) h
@@ -124,8 +124,8 @@ module _ (limit : ℕ) (part : ℕ → Parser Deep) where
       (deep-node limit (max (depth x) (max (optional_depth p) (max (optional_depth q) (optional_depth t)))) (Slice x p q t optional (span from (next d))) (next d) (omega arith) refl)
 
   pub prefixed-is : (l : ℕ) (form : Expr → Span → Expr) (x : Expr) (i j : Input) → depth (form x (span (start i) j)) ≡ suc (depth x) → part l (next i) ≡ Some (deep x, j) → depth (form x (span (start i) j)) ≤ limit
-      → prefixed limit part l form i ≡ Some (deep (form x (span (start i) j)), j)
-  unfolding prefixed
+      → prefix_form limit part l form i ≡ Some (deep (form x (span (start i) j)), j)
+  unfolding prefix_form
   prefixed-is l form x i j d h le = rw h (deep-node limit (depth x) (form x (span (start i) j)) j (omega arith) d)
 
 module _ (limit : ℕ) (part : ℕ → Parser Deep) where
@@ -143,22 +143,22 @@ module _ (limit : ℕ) (part : ℕ → Parser Deep) where
   unfolding r.items_from
   item-more n found d s x i a y h e p g q = rw (unlike k.RightBracket (kind i) h, p, alike k.Comma (kind a) g, e) q
 
-  pub behind-last : (found : Items) (d : ℕ) (a : Input) → kind a ≡ k.RightBracket → r.items_behind limit part found d a ≡ Some ((found, d), next a)
-  unfolding r.items_behind
+  pub behind-last : (found : Items) (d : ℕ) (a : Input) → kind a ≡ k.RightBracket → r.items_after_first limit part found d a ≡ Some ((found, d), next a)
+  unfolding r.items_after_first
   behind-last found d a g = rw (differ k.Comma k.RightBracket (kind a) g (λ e. cc), expects limit part k.RightBracket a g) refl
 
-  pub behind-comma : (found : Items) (d : ℕ) (a : Input) → kind a ≡ k.Comma → r.items_behind limit part found d a ≡ r.items_from limit part (left (next a)) found d (next a)
-  unfolding r.items_behind
+  pub behind-comma : (found : Items) (d : ℕ) (a : Input) → kind a ≡ k.Comma → r.items_after_first limit part found d a ≡ r.items_from limit part (left (next a)) found d (next a)
+  unfolding r.items_after_first
   behind-comma found d a g = rw (alike k.Comma (kind a) g) refl
 
-  pub empty-is : (from : ℕ) (i : Input) → kind i ≡ k.RightBracket → 1 ≤ limit → r.bracketed limit part from i ≡ Some (deep (Array NoItems (span from (next i))), next i)
-  unfolding r.bracketed
+  pub empty-is : (from : ℕ) (i : Input) → kind i ≡ k.RightBracket → 1 ≤ limit → r.brackets limit part from i ≡ Some (deep (Array NoItems (span from (next i))), next i)
+  unfolding r.brackets
   empty-is from i h le = rw (alike k.RightBracket (kind i) h) (deep-node limit 0 (Array NoItems (span from (next i))) (next i) le refl)
 
   pub array-is : (from : ℕ) (s : Bool) (x : Expr) (xs : Items) (i a j : Input) → (kind i ≡ k.RightBracket → ⊥) → same k.Spread (kind i) ≡ s → part 0 (behind_dots i) ≡ Some (deep x, a) → same k.For (kind a) ≡ false
-      → r.items_behind limit part (one_item s x) (depth x) a ≡ Some ((xs, items_depth xs), j) → depth (Array xs (span from j)) ≤ limit
-      → r.bracketed limit part from i ≡ Some (deep (Array xs (span from j)), j)
-  unfolding r.bracketed r.array
+      → r.items_after_first limit part (one_item s x) (depth x) a ≡ Some ((xs, items_depth xs), j) → depth (Array xs (span from j)) ≤ limit
+      → r.brackets limit part from i ≡ Some (deep (Array xs (span from j)), j)
+  unfolding r.brackets r.array
   array-is from s x xs i a j h e p f q le =
       rw (unlike k.RightBracket (kind i) h, p, f, and-false (not (same k.Spread (kind i))), e, q) (deep-node limit (items_depth xs) (Array xs (span from j)) j (omega arith) refl)
 
@@ -173,8 +173,8 @@ module _ (limit : ℕ) (part : ℕ → Parser Deep) where
   pub comprehension-is : (x y : Expr) (key : Option site.Name) (name : site.Name) (o : Optional) (i a b c d : Input) → (kind (next i) ≡ k.RightBracket → ⊥) → same k.Spread (kind (next i)) ≡ false
       → part 0 (next i) ≡ Some (deep x, a) → kind a ≡ k.For → Calls key name (next a) b → part 1 b ≡ Some (deep y, c) → r.condition limit part c ≡ Some ((o, optional_depth o), d) → kind d ≡ k.RightBracket
       → depth (Comprehension x key name y o (span (start i) (next d))) ≤ limit
-      → r.bracketed limit part (start i) (next i) ≡ Some (deep (Comprehension x key name y o (span (start i) (next d))), next d)
-  unfolding r.bracketed r.comprehension r.comprehension_made
+      → r.brackets limit part (start i) (next i) ≡ Some (deep (Comprehension x key name y o (span (start i) (next d))), next d)
+  unfolding r.brackets r.comprehension r.comprehension_made
   comprehension-is x y key name o i a b c d h e p f w q t g le =
       rw (unlike k.RightBracket (kind (next i)) h, e, p, alike k.For (kind a) f, calls-is w, q, t, expects limit part k.RightBracket d g)
       (deep-node limit (max (depth x) (max (depth y) (optional_depth o))) (Comprehension x key name y o (span (start i) (next d))) (next d) (omega arith) refl)

@@ -9,7 +9,7 @@ use Rattle.tera_syntax_tree.specs.View.{arguments_of, expr_of}
 use Rattle.tera_syntax_tokens.specs.declared.token.Kind.TheVariants.{RightParenthesis}
 use Rattle.tera_syntax_tokens.specs.Input.{Input, Parsed, Parser, and_then, kind, text, next, same}
 use Rattle.tera_syntax_expressions.specs.Arguments.{name_cmp, put_argument, argument_name}
-use Rattle.tera_syntax_expressions.specs.Commas.{comma_or}
+use Rattle.tera_syntax_expressions.specs.CommaLists.{comma_or}
 use Rattle.tera_syntax_expressions.specs.Parts.{position_of}
 use Rattle.tera_syntax_expressions.specs.Expressions as r
 use Rattle.tera_syntax_expressions.specs.Expressions.{Deep}

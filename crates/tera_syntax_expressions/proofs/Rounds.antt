@@ -8,12 +8,12 @@ use Rattle.tera_syntax_tokens.specs.Answers.{Refuses, IsSyntax}
 use Rattle.tera_syntax_tree.specs.Tree.{Items, MoreItems, Key, Entries, MoreEntries}
 use Rattle.tera_syntax_tree.specs.View.{items_of, entries_of, literal_option, expr_of}
 use Rattle.tera_syntax_tree.specs.declared.expression.Item as item
-use Rattle.tera_syntax_tree.specs.declared.expression.Entry as entry
+use Rattle.tera_syntax_tree.specs.declared.expression.EntryExpression as entry
 use Rattle.tera_syntax_tokens.specs.Token.{Token}
 use Rattle.tera_syntax_tokens.specs.declared.token.Kind.{Kind}
 use Rattle.tera_syntax_tokens.specs.declared.token.Kind.TheVariants.{LeftParenthesis, RightParenthesis, RightBracket, RightBrace, Comma, Spread}
 use Rattle.tera_syntax_tokens.specs.Input.{Input, Parsed, Parser, and_then, kind, next, after, same, start, starts, start_of, expect}
-use Rattle.tera_syntax_expressions.specs.Commas.{comma_or}
+use Rattle.tera_syntax_expressions.specs.CommaLists.{comma_or}
 use Rattle.tera_syntax_expressions.specs.Precedence as precedence
 use Rattle.tera_syntax_expressions.specs.Expressions.{Deep, join_items, one_item, join_entries, one_entry, entry_key, entry_rest, entries_from, behind_dots, behind_item, items_from, expr, level, climb, goes_on, gives, operation, floor_in, opened}
 

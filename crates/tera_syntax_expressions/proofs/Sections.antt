@@ -37,8 +37,8 @@ module _ (limit : ℕ) (part : ℕ → Parser Deep) (reads : Reads part) where
   one-got : (found : Filters) (i j : Input) (z : Filters × ℕ) → r.section_filter limit part found i ≡ Some (z, j) → GotOne limit found i z j
   unfolding r.section_filter
   one-got found i j z h =
-      let g = guard (is_word (kind i)) (and_then (r.given limit part (next i)) (r.filter_of limit part found (text i) (start i))) (z, j) h in
-      let q = and_then-some (r.given limit part (next i)) (r.filter_of limit part found (text i) (start i)) (z, j) g.1 in
+      let g = guard (is_word (kind i)) (and_then (r.optional_arguments limit part (next i)) (r.filter_of limit part found (text i) (start i))) (z, j) h in
+      let q = and_then-some (r.optional_arguments limit part (next i)) (r.filter_of limit part found (text i) (start i)) (z, j) g.1 in
       let w = given-got limit part reads (next i) q.1 q.0 q.2 in
       let made : Filters × ℕ = (join_filters found (one_filter (text i) q.0.0 (span (start i) q.1)), q.0.1 + 1) in
       let u = guard (nat_lt q.0.1 limit) (Some (made, q.1)) (z, j) q.3 in

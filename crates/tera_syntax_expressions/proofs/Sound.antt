@@ -15,7 +15,7 @@ use Rattle.tera_syntax_expressions.specs.Grammar.{Operator, or, and, equal, not_
 use Rattle.tera_syntax_expressions.specs.Headings.{Calls, calls}
 use Rattle.tera_syntax_expressions.specs.Arguments.{is_call, call_form, is_test_name}
 use Rattle.tera_syntax_expressions.specs.Expressions as r
-use Rattle.tera_syntax_expressions.specs.Expressions.{Deep, deep, needs, gives, begins, goes_on, floor_in, opened, climb, level, level_with, expr, head, node, prefixed, infixed, applied, behind_dots, join_items, one_item, join_entries}
+use Rattle.tera_syntax_expressions.specs.Expressions.{Deep, deep, needs, gives, begins, goes_on, floor_in, opened, climb, level, level_with, expr, head, node, prefix_form, infix_form, applied, behind_dots, join_items, one_item, join_entries}
 use Rattle.tera_syntax_expressions.proofs.GoingOn.{gives-below, on-means, operator-depth, operator-needs}
 use Rattle.tera_syntax_expressions.proofs.Calls.{calls-got}
 use Rattle.tera_syntax_expressions.proofs.ArgumentRows.{Reads, arguments-got, call-depth}
@@ -59,8 +59,8 @@ module _ (limit b : ℕ) (part : ℕ → Parser Deep) (sound : Sound b part) whe
       go (got _ d) = (d, refl)
 
   prefixed-got : (l : ℕ) (form : Expr → Span → Expr) → ((x : Expr) (at : Span) → depth (form x at) ≡ suc (depth x)) → (i j : Input) (y : Deep) → l ≤ 11
-      → ((x : Expr) (j : Input) → Derives l x (next i) j → Derives l (form x (span (start i) j)) i j) → prefixed limit part l form i ≡ Some (y, j) → Got limit l y i j
-  unfolding prefixed
+      → ((x : Expr) (j : Input) → Derives l x (next i) j → Derives l (form x (span (start i) j)) i j) → prefix_form limit part l form i ≡ Some (y, j) → Got limit l y i j
+  unfolding prefix_form
   prefixed-got l form deeper i j y le build h =
       let q = and_then-some (part l (next i)) (λ x. λ j. node limit x.depth (form x.expr (span (start i) j)) j) (y, j) h in
       go (sound l (next i) q.1 q.0 le q.2) q.3
@@ -70,8 +70,8 @@ module _ (limit b : ℕ) (part : ℕ → Parser Deep) (sound : Sound b part) whe
 
   infixed-got : (m n l : ℕ) (form : Expr → Expr → Span → Expr) → ((x y : Expr) (at : Span) → depth (form x y at) ≡ suc (max (depth x) (depth y))) → (p i j : Input) (x y : Deep) → m ≤ 11
       → ((v w : Expr) (j : Input) → Derives n v p i → Derives m w (next i) j → Derives l (form v w (span (start p) j)) p j)
-      → Got limit n x p i → infixed limit part m form (start p) x i ≡ Some (y, j) → Got limit l y p j
-  unfolding infixed
+      → Got limit n x p i → infix_form limit part m form (start p) x i ≡ Some (y, j) → Got limit l y p j
+  unfolding infix_form
   infixed-got m n l form deeper p i j x y le build (got {x = v} _ d) h =
       let q = and_then-some (part m (next i)) (λ y. λ j. node limit (max (depth v) y.depth) (form v y.expr (span (start p) j)) j) (y, j) h in
       go (sound m (next i) q.1 q.0 le q.2) q.3
@@ -178,7 +178,7 @@ module _ (limit b : ℕ) (part : ℕ → Parser Deep) (sound : Sound b part) whe
 
   in-got : (n : ℕ) (p i j : Input) (x y : Deep) → Got limit n x p i → applied limit part 5 binary.In (start p) x (next i) ≡ Some (y, j) → kind (next i) ≡ k.In → kind i ≡ k.Not → 4 ≤ n
       → (z : Deep) (l : Input) → node limit y.depth (Not y.expr (span (start p) j)) j ≡ Some (z, l) → Got limit 4 z p l
-  unfolding applied infixed
+  unfolding applied infix_form
   in-got n p i j x y (got {x = v} _ d) h g nk le z l nn =
       let q = and_then-some (part 5 (next (next i))) (λ y. λ j. node limit (max (depth v) y.depth) (Binary binary.In v y.expr (span (start p) j)) j) (y, j) h in
       go (sound 5 (next (next i)) q.1 q.0 (omega arith) q.2) q.3
@@ -200,7 +200,7 @@ module _ (limit b : ℕ) (part : ℕ → Parser Deep) (sound : Sound b part) whe
   filter-got : (have : ℕ) (p i j : Input) (x y : Deep) → 10 ≤ have → kind i ≡ k.Bar → Got limit have x p i → r.filter limit part (start p) x i ≡ Some (y, j) → Got limit 10 y p j
   unfolding r.filter
   filter-got have p i j x y n h (got {x = v} _ d) hh =
-      let q = guard (is_word (kind (next i))) (r.passed limit part Filter (start p) (deep v) (next i)) (y, j) hh in
+      let q = guard (is_word (kind (next i))) (r.application limit part Filter (start p) (deep v) (next i)) (y, j) hh in
       passed-got limit part reads (λ y j. Got limit 10 y p j) Filter (λ _ _ _ _. refl) (start p) (next i) j v y (λ _ _ w ok. got ok (filter (down have 10 n d) h q.0 w)) q.1
 
   test-got : (have : ℕ) (p i j : Input) (x y : Deep) → 4 ≤ have → kind i ≡ k.Is → Got limit have x p i → r.tested limit part (start p) x i ≡ Some (y, j) → Got limit 4 y p j
@@ -208,13 +208,13 @@ module _ (limit b : ℕ) (part : ℕ → Parser Deep) (sound : Sound b part) whe
   test-got have p i j x y n h (got {x = v} _ d) hh =
       either (chosen (same k.Not (kind o)) (and_then (r.test_by_name limit part (start p) (deep v) (next o)) denied) (r.test_by_name limit part (start p) (deep v) o) (Some (y, j)) hh)
       (λ q. let t = and_then-some (r.test_by_name limit part (start p) (deep v) (next o)) denied (y, j) q.1 in
-      let u = guard (is_test_name (kind (next o))) (r.passed limit part Test (start p) (deep v) (next o)) (t.0, t.1) t.2 in
+      let u = guard (is_test_name (kind (next o))) (r.application limit part Test (start p) (deep v) (next o)) (t.0, t.1) t.2 in
       let P : Deep → Input → Type 0 = λ z a. denied z a ≡ Some (y, j) → Got limit 4 y p j in
       passed-got limit part reads P Test (λ _ _ _ _. refl) (start p) (next o) t.1 v t.0
       (λ all a w _ m. let z : Expr = Test v (text (next o)) all (span (start p) a) in
       node-got (λ y j. Got limit 4 y p j) limit (depth z) (Not z (span (start p) a)) a j y m refl
       (λ ok. got ok (not_test (down have 4 n d) h (same-is k.Not (kind o) q.0) u.0 w))) u.1 t.3)
-      (λ q. let u = guard (is_test_name (kind o)) (r.passed limit part Test (start p) (deep v) o) (y, j) q.1 in
+      (λ q. let u = guard (is_test_name (kind o)) (r.application limit part Test (start p) (deep v) o) (y, j) q.1 in
       passed-got limit part reads (λ y j. Got limit 4 y p j) Test (λ _ _ _ _. refl) (start p) o j v y (λ _ _ w ok. got ok (test (down have 4 n d) h u.0 w)) u.1)
     where
       o : Input
@@ -233,7 +233,7 @@ module _ (limit b : ℕ) (part : ℕ → Parser Deep) (sound : Sound b part) whe
       high : 11 ≤ have → Got limit 11 x p i
       high n = lowered have 11 x p i n g
 
-      grouped : {s : Kind} {form : Expr → Expr → Span → Expr} {l : ℕ} → Operator s form l → kind i ≡ s → l ≤ have → infixed limit part (suc l) form (start p) x i ≡ Some (y, j) → Got limit l y p j
+      grouped : {s : Kind} {form : Expr → Expr → Span → Expr} {l : ℕ} → Operator s form l → kind i ≡ s → l ≤ have → infix_form limit part (suc l) form (start p) x i ≡ Some (y, j) → Got limit l y p j
       grouped {form = form} {l = l} w h n hh =
           let v = operator-needs w in
           infixed-got (suc l) have l form (operator-depth w) p i j x y (omega arith) (λ _ _ _ d f. operation w (down have l n d) h f) g hh
@@ -335,9 +335,9 @@ module _ (limit b : ℕ) (part : ℕ → Parser Deep) (sound : Sound b part) whe
       (λ ok. got ok (array h q g))
 
   array-got : (i a j : Input) (y : Deep) (s : Bool) (x : Expr) → kind i ≡ k.LeftBracket → DerivesItem s x (next i) a → r.array limit part (start i) s (deep x) a ≡ Some (y, j) → Got limit 11 y i j
-  unfolding r.array r.items_behind
+  unfolding r.array r.items_after_first
   array-got i a j y s x h w hh =
-      let q = and_then-some (r.items_behind limit part (one_item s x) (depth x) a) (r.array_of limit part (start i)) (y, j) hh in
+      let q = and_then-some (r.items_after_first limit part (one_item s x) (depth x) a) (r.array_of limit part (start i)) (y, j) hh in
       array-of-got i q.1 j y q.0 h
       (rest-got (λ found d i. r.items_from limit part (left i) found d i) NoItems (one_item s x) s x 0 (depth x) (next i) a q.1 q.0 refl (omega arith) w
       (items-got (left (next a)) (one_item s x) (depth x) (next a) q.1 q.0) q.2) q.3
@@ -383,8 +383,8 @@ module _ (limit b : ℕ) (part : ℕ → Parser Deep) (sound : Sound b part) whe
           node-got (λ y j. Got limit 11 y i j) limit (max (depth v) (max (depth t) z.1)) (made m.1) m.1 j y m.3 (omega (arith, od))
           (λ ok. subst P (sym u.1) (λ ok. got ok (comprehension h d f w g o.0 u.0)) ok)
 
-  bracketed-got : (i j : Input) (y : Deep) → kind i ≡ k.LeftBracket → r.bracketed limit part (start i) (next i) ≡ Some (y, j) → Got limit 11 y i j
-  unfolding r.bracketed
+  bracketed-got : (i j : Input) (y : Deep) → kind i ≡ k.LeftBracket → r.brackets limit part (start i) (next i) ≡ Some (y, j) → Got limit 11 y i j
+  unfolding r.brackets
   bracketed-got i j y h hh =
       either (chosen (same k.RightBracket (kind (next i))) (r.array_of limit part (start i) (NoItems, 0) (next (next i)))
       (and_then (part 0 (behind_dots (next i))) (r.bracketed_by limit part (start i) (same k.Spread (kind (next i))))) (Some (y, j)) hh)

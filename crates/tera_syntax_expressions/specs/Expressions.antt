@@ -120,19 +120,19 @@ behind_dots i = if same k.Spread (kind i) then next i else i
 -- `sub l` reads an expression of level l or above that is part of another, and `limit` is the
 -- greatest depth.
 module _ (limit : ℕ) (sub : ℕ → Parser Deep) where
-  unfoldable pub prefixed : ℕ → (Expr → Span → Expr) → Parser Deep
-  prefixed level form =
+  unfoldable pub prefix_form : ℕ → (Expr → Span → Expr) → Parser Deep
+  prefix_form level form =
       λ i. (sub level >>= (λ x. λ j. node limit x.depth (form x.expr (span (start i) j)) j))
       (next i)
 
-  unfoldable pub infixed : ℕ → (Expr → Expr → Span → Expr) → ℕ → Deep → Parser Deep
-  infixed level form from x =
+  unfoldable pub infix_form : ℕ → (Expr → Expr → Span → Expr) → ℕ → Deep → Parser Deep
+  infix_form level form from x =
       λ i. (sub level
       >>= (λ y. λ j. node limit (max x.depth y.depth) (form x.expr y.expr (span from j)) j))
       (next i)
 
   unfoldable pub applied : ℕ → BinaryOperator → ℕ → Deep → Parser Deep
-  applied level operator = infixed level (Binary operator)
+  applied level operator = infix_form level (Binary operator)
 
   unfoldable pub not_in : ℕ → Deep → Parser Deep
   not_in from x =
@@ -214,22 +214,22 @@ module _ (limit : ℕ) (sub : ℕ → Parser Deep) where
       and_then (argument found i) (behind_argument (arguments_from n) d)
 
   -- the arguments behind a name, if they are written, and how deep they are
-  unfoldable pub given : Parser (Arguments × ℕ)
-  given = λ i. if same k.LeftParenthesis (kind i)
+  unfoldable pub optional_arguments : Parser (Arguments × ℕ)
+  optional_arguments = λ i. if same k.LeftParenthesis (kind i)
       then arguments_from (left (next i)) NoArguments 0 (next i) else Some ((NoArguments, 0), i)
 
   -- a form of a value, a name and arguments, from the name on
-  unfoldable pub passed : (Expr → site.Name → Arguments → Span → Expr) → ℕ → Deep → Parser Deep
-  passed form from x =
-      λ i. (given
+  unfoldable pub application : (Expr → site.Name → Arguments → Span → Expr) → ℕ → Deep → Parser Deep
+  application form from x =
+      λ i. (optional_arguments
       >>= (λ g. λ j. node limit (max x.depth g.1) (form x.expr (text i) g.0 (span from j)) j))
       (next i)
 
   unfoldable pub filter : ℕ → Deep → Parser Deep
-  filter from x = λ i. if is_word (kind (next i)) then passed Filter from x (next i) else None
+  filter from x = λ i. if is_word (kind (next i)) then application Filter from x (next i) else None
 
   unfoldable pub test_by_name : ℕ → Deep → Parser Deep
-  test_by_name from x = λ i. if is_test_name (kind i) then passed Test from x i else None
+  test_by_name from x = λ i. if is_test_name (kind i) then application Test from x i else None
 
   unfoldable pub tested : ℕ → Deep → Parser Deep
   tested from x =
@@ -250,12 +250,12 @@ module _ (limit : ℕ) (sub : ℕ → Parser Deep) where
   suffixed_by from x k.OptionalBracket = subscript true from x
   suffixed_by from x _ = refuse
 
-  unfoldable pub suffixed : ℕ → Deep → Parser Deep
-  suffixed from x = λ i. suffixed_by from x (kind i) i
+  unfoldable pub suffix_form : ℕ → Deep → Parser Deep
+  suffix_form from x = λ i. suffixed_by from x (kind i) i
 
   abbrev pub operation_by : ℕ → Deep → Kind → Parser Deep
-  operation_by from x k.Or = infixed precedence.and Or from x
-  operation_by from x k.And = infixed precedence.not And from x
+  operation_by from x k.Or = infix_form precedence.and Or from x
+  operation_by from x k.And = infix_form precedence.not And from x
   operation_by from x k.Equal = applied precedence.concatenation binary.Equal from x
   operation_by from x k.NotEqual = applied precedence.concatenation binary.NotEqual from x
   operation_by from x k.Less = applied precedence.concatenation binary.Less from x
@@ -293,15 +293,15 @@ module _ (limit : ℕ) (sub : ℕ → Parser Deep) where
       (join_items found (one_item (same k.Spread (kind i)) x.expr)) (max d x.depth))
 
   -- from behind the first
-  unfoldable pub items_behind : Items → ℕ → Parser (Items × ℕ)
-  items_behind = behind_item (λ found d. λ i. items_from (left i) found d i)
+  unfoldable pub items_after_first : Items → ℕ → Parser (Items × ℕ)
+  items_after_first = behind_item (λ found d. λ i. items_from (left i) found d i)
 
   abbrev pub array_of : ℕ → Items × ℕ → Parser Deep
   array_of from xs = λ j. node limit xs.1 (Array xs.0 (span from j)) j
 
   -- an array, from behind its first item
   unfoldable pub array : ℕ → Bool → Deep → Parser Deep
-  array from s x = items_behind (one_item s x.expr) x.depth >>= array_of from
+  array from s x = items_after_first (one_item s x.expr) x.depth >>= array_of from
 
   -- the condition of a comprehension, if it is written, and how deep it is
   unfoldable pub condition : Parser (Optional × ℕ)
@@ -330,8 +330,8 @@ module _ (limit : ℕ) (sub : ℕ → Parser Deep) where
       λ j. if not s && same k.For (kind j) then comprehension from x j else array from s x j
 
   -- what stands behind a bracket: an array or a comprehension
-  unfoldable pub bracketed : ℕ → Parser Deep
-  bracketed from = λ i. if same k.RightBracket (kind i) then array_of from (NoItems, 0) (next i)
+  unfoldable pub brackets : ℕ → Parser Deep
+  brackets from = λ i. if same k.RightBracket (kind i) then array_of from (NoItems, 0) (next i)
       else and_then (sub precedence.choice (behind_dots i))
       (bracketed_by from (same k.Spread (kind i)))
 
@@ -365,7 +365,7 @@ module _ (limit : ℕ) (sub : ℕ → Parser Deep) where
   -- a filter by its name, behind those that were found, and its depth
   unfoldable pub section_filter : Filters → Parser (Filters × ℕ)
   section_filter found =
-      λ i. if is_word (kind i) then and_then (given (next i)) (filter_of found (text i) (start i))
+      λ i. if is_word (kind i) then and_then (optional_arguments (next i)) (filter_of found (text i) (start i))
       else None
 
   -- behind a filter stands a bar and more, or they end
@@ -454,8 +454,8 @@ module _ (limit : ℕ) (sub : ℕ → Parser Deep) where
   name_by (Some n) = λ i. node limit 0 (Name n (span (start i) (behind_loop i))) (behind_loop i)
 
   abbrev pub head_by : Kind → Parser Deep
-  head_by k.Minus = prefixed precedence.minus Negate
-  head_by k.Not = prefixed precedence.not Not
+  head_by k.Minus = prefix_form precedence.minus Negate
+  head_by k.Not = prefix_form precedence.not Not
   head_by k.Int =
       λ i. leaf (option_map (λ z. Integer z (span (start i) (next i))) (integer (text i))) (next i)
   head_by k.Text =
@@ -464,7 +464,7 @@ module _ (limit : ℕ) (sub : ℕ → Parser Deep) where
   head_by k.False = λ i. node limit 0 (Boolean false (span (start i) (next i))) (next i)
   head_by k.Nothing = λ i. node limit 0 (Nothing (span (start i) (next i))) (next i)
   head_by k.Name = λ i. name_by (loop_name i) i
-  head_by k.LeftBracket = λ i. bracketed (start i) (next i)
+  head_by k.LeftBracket = λ i. brackets (start i) (next i)
   head_by k.LeftBrace = map
   head_by k.Less = component
   head_by _ = refuse

@@ -1,7 +1,7 @@
 pub mod Applications
 pub mod Precedence
 pub mod Keys
-pub mod Commas
+pub mod CommaLists
 pub mod Loops
 pub mod Headings
 pub mod Arguments

@@ -6,7 +6,7 @@ use denote.Ref.{MutBor}
 use Rattle.tera_errors.specs.Site.{Name}
 use Rattle.tera_errors.specs.declared.span.Span.{Span}
 use Rattle.tera_syntax_tree.specs.declared.expression.Item as item
-use Rattle.tera_syntax_tree.specs.declared.expression.Entry as entry
+use Rattle.tera_syntax_tree.specs.declared.expression.EntryExpression as entry
 use Rattle.tera_syntax_tree.specs.declared.expression.Expression as declared_expression
 use Rattle.tera_syntax_tree.specs.declared.component.Parameter as parameter
 use Rattle.tera_syntax_tree.specs.Definitions.{rest_names}
@@ -17,14 +17,14 @@ use Rattle.tera_syntax_tokens.specs.declared.tokens.Tokens.{Tokens}
 use Rattle.tera_syntax_tokens.specs.Answers.{Refuses}
 use Rattle.tera_syntax_tokens.specs.Input.{Input, Parsed, Parser, and_then, left}
 use Rattle.tera_syntax_tokens.specs.Takes.{Takes, input}
-use Rattle.tera_syntax_expressions.specs.declared.expressions.Deep as declared
-use Rattle.tera_syntax_expressions.specs.declared.headings.LoopNames.{LoopNames}
-use Rattle.tera_syntax_expressions.specs.declared.reader.Part.{Part}
+use Rattle.tera_syntax_expressions.specs.declared.expressions.ReadExpression as declared
+use Rattle.tera_syntax_expressions.specs.declared.headings.HeadingNames.{HeadingNames}
+use Rattle.tera_syntax_expressions.specs.declared.reader.OptionalPart.{OptionalPart}
 use Rattle.tera_syntax_expressions.specs.declared.reader.Reader.{Reader}
-use Rattle.tera_syntax_expressions.specs.declared.signs.Prefix.{Prefix}
-use Rattle.tera_syntax_expressions.specs.declared.signs.Prefix.TheVariants as sign
-use Rattle.tera_syntax_expressions.specs.declared.signs.Infix.{Infix}
-use Rattle.tera_syntax_expressions.specs.declared.signs.Infix.TheVariants as form
+use Rattle.tera_syntax_expressions.specs.declared.operator_forms.Prefix.{Prefix}
+use Rattle.tera_syntax_expressions.specs.declared.operator_forms.Prefix.TheVariants as sign
+use Rattle.tera_syntax_expressions.specs.declared.operator_forms.Infix.{Infix}
+use Rattle.tera_syntax_expressions.specs.declared.operator_forms.Infix.TheVariants as form
 use Rattle.std.specs.declared.cmp.Ordering.{Ordering}
 use Rattle.std.specs.Ordering.{match_ordering}
 use Rattle.tera_syntax_expressions.specs.Arguments.{name_cmp}
@@ -37,10 +37,10 @@ deep_of x = record { expr = expr_of x.expression; depth = x.depth }
 abbrev pub IsEmptied : declared.Deep → Type 0
 IsEmptied x = expr_of x.expression ≡ Nothing (record { start = 0; end = 0 })
 
-abbrev pub part_of : Part → Optional × ℕ
+abbrev pub part_of : OptionalPart → Optional × ℕ
 part_of p = (optional_of p.expression, p.depth)
 
-abbrev pub names_of : LoopNames → Option Name × Name
+abbrev pub names_of : HeadingNames → Option Name × Name
 names_of n = (option_copied n.key, n.name.now)
 
 abbrev pub prefix_of : Prefix → Expr → Span → Expr

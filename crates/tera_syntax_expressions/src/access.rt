@@ -5,10 +5,10 @@ ghost use Rattle.tera_syntax_tokens.specs.Prelude.{Takes, input};
 ghost use Rattle.tera_syntax_expressions.specs.Expressions as spec;
 ghost use Rattle.tera_syntax_expressions.specs.Parts.{Follows, Nests, deep_of, part_of};
 
-use crate::expressions::{Deep, Read, Replaced};
-use crate::making::{absent, present};
+use crate::expressions::{ReadExpression, Read, Replaced};
+use crate::shared_forms::{no_part, some_part};
 use crate::precedence;
-use crate::reader::{Part, Reader, read, taken};
+use crate::reader::{OptionalPart, Reader, read, take_operand};
 use std::alloc::Global;
 use tera_syntax_tokens::refusal::{Reason, Refusal};
 use tera_syntax_tokens::token::Kind;
@@ -42,7 +42,7 @@ impl<'s, F: Fn(Global, &mut Tokens<'_, 's>, usize, u8) -> Read<'s>> Reader<F> {
         &self,
         tokens: &mut Tokens<'_, 's>,
         at: Access,
-        x: &mut Deep<'s>,
+        x: &mut ReadExpression<'s>,
     ) -> Replaced
         ensures { let meant = spec.attribute self.now.limit (spec.expr self.now.below)
             at.optional at.start (deep_of x.old) in
@@ -56,7 +56,7 @@ impl<'s, F: Fn(Global, &mut Tokens<'_, 's>, usize, u8) -> Read<'s>> Reader<F> {
         tokens.take();
         let span = tokens.span(at.start);
         let depth = x.depth;
-        let target = Box::new(self.alloc, taken(x))?;
+        let target = Box::new(self.alloc, take_operand(x))?;
         let expression = Expression::attribute(target, name, at.optional, span);
         self.put(tokens, depth, expression, x)
     }
@@ -68,7 +68,7 @@ impl<'s, F: Fn(Global, &mut Tokens<'_, 's>, usize, u8) -> Read<'s>> Reader<F> {
         &self,
         tokens: &mut Tokens<'_, 's>,
         at: Access,
-        x: &mut Deep<'s>,
+        x: &mut ReadExpression<'s>,
     ) -> Replaced
         requires { Nests self.now.below (F.pre self.now.expr) (F.post self.now.expr) }
         ensures { let meant = spec.subscript self.now.limit (spec.expr self.now.below)
@@ -80,37 +80,37 @@ impl<'s, F: Fn(Global, &mut Tokens<'_, 's>, usize, u8) -> Read<'s>> Reader<F> {
             return Err(tokens.refuse(Reason::NoExpression));
         }
         if tokens.kind() == Kind::Colon {
-            return self.slice(tokens, at, x, absent());
+            return self.slice(tokens, at, x, no_part());
         }
         let y = read!(self.sub(tokens, precedence::CHOICE));
         if tokens.kind() == Kind::RightBracket {
             self.index(tokens, at, x, y)
         } else {
-            self.slice(tokens, at, x, present(self.alloc, y)?)
+            self.slice(tokens, at, x, some_part(self.alloc, y)?)
         }
     }
 
     /// A bound of a slice, if it is written, and how deep it is.
     #[inline(always)]
     #[tactic(auto, unfolding(crate::specs::Expressions::part))]
-    pub(crate) fn part(&self, tokens: &mut Tokens<'_, 's>) -> Result<Part<'s>, Refusal>
+    pub(crate) fn part(&self, tokens: &mut Tokens<'_, 's>) -> Result<OptionalPart<'s>, Refusal>
         requires { Nests self.now.below (F.pre self.now.expr) (F.post self.now.expr) }
         ensures { Follows part_of spec.part self.now tokens.old result tokens.new }
     {
         if tokens.kind() == Kind::Colon {
-            return Ok(absent());
+            return Ok(no_part());
         }
         if tokens.kind() == Kind::RightBracket {
-            return Ok(absent());
+            return Ok(no_part());
         }
         let x = read!(self.sub(tokens, precedence::CHOICE));
-        Ok(present(self.alloc, x)?)
+        Ok(some_part(self.alloc, x)?)
     }
 
     /// The step of a slice, if it is written, and how deep it is.
     #[inline(always)]
     #[tactic(auto, unfolding(crate::specs::Expressions::step))]
-    pub(crate) fn step(&self, tokens: &mut Tokens<'_, 's>) -> Result<Part<'s>, Refusal>
+    pub(crate) fn step(&self, tokens: &mut Tokens<'_, 's>) -> Result<OptionalPart<'s>, Refusal>
         requires { Nests self.now.below (F.pre self.now.expr) (F.post self.now.expr) }
         ensures { Follows part_of spec.step self.now tokens.old result tokens.new }
     {
@@ -118,7 +118,7 @@ impl<'s, F: Fn(Global, &mut Tokens<'_, 's>, usize, u8) -> Read<'s>> Reader<F> {
             tokens.take();
             return self.part(tokens);
         }
-        Ok(absent())
+        Ok(no_part())
     }
 
     /// `x[y]`, where the index was read, from its bracket on.
@@ -128,8 +128,8 @@ impl<'s, F: Fn(Global, &mut Tokens<'_, 's>, usize, u8) -> Read<'s>> Reader<F> {
         &self,
         tokens: &mut Tokens<'_, 's>,
         at: Access,
-        x: &mut Deep<'s>,
-        y: Deep<'s>,
+        x: &mut ReadExpression<'s>,
+        y: ReadExpression<'s>,
     ) -> Replaced
         ensures { let y = deep_of y.entry in
             let meant = spec.index_at self.now.limit (spec.expr self.now.below)
@@ -138,7 +138,7 @@ impl<'s, F: Fn(Global, &mut Tokens<'_, 's>, usize, u8) -> Read<'s>> Reader<F> {
     {
         tokens.take();
         let depth = x.depth.max(y.depth);
-        let (target, index) = (taken(x), y.expression);
+        let (target, index) = (take_operand(x), y.expression);
         let parts = Box::new(self.alloc, Indexed { target, index })?;
         let span = tokens.span(at.start);
         self.put(
@@ -156,8 +156,8 @@ impl<'s, F: Fn(Global, &mut Tokens<'_, 's>, usize, u8) -> Read<'s>> Reader<F> {
         &self,
         tokens: &mut Tokens<'_, 's>,
         at: Access,
-        x: &mut Deep<'s>,
-        p: Part<'s>,
+        x: &mut ReadExpression<'s>,
+        p: OptionalPart<'s>,
     ) -> Replaced
         requires { Nests self.now.below (F.pre self.now.expr) (F.post self.now.expr) }
         ensures { let meant = spec.slice self.now.limit (spec.expr self.now.below)
@@ -177,10 +177,10 @@ impl<'s, F: Fn(Global, &mut Tokens<'_, 's>, usize, u8) -> Read<'s>> Reader<F> {
         &self,
         tokens: &mut Tokens<'_, 's>,
         at: Access,
-        x: &mut Deep<'s>,
-        p: Part<'s>,
-        q: Part<'s>,
-        r: Part<'s>,
+        x: &mut ReadExpression<'s>,
+        p: OptionalPart<'s>,
+        q: OptionalPart<'s>,
+        r: OptionalPart<'s>,
     ) -> Replaced
         ensures { let rule = spec.slice_made self.now.limit (spec.expr self.now.below) in
             let a = part_of p.entry in let b = part_of q.entry in let c = part_of r.entry in
@@ -196,7 +196,7 @@ impl<'s, F: Fn(Global, &mut Tokens<'_, 's>, usize, u8) -> Read<'s>> Reader<F> {
             end: q.expression,
             step: r.expression,
         };
-        let target = taken(x);
+        let target = take_operand(x);
         let sliced = Box::new(self.alloc, Sliced { target, bounds })?;
         let span = tokens.span(at.start);
         self.put(

@@ -5,9 +5,9 @@ ghost use Rattle.tera_syntax_expressions.specs.Arguments as call;
 ghost use Rattle.tera_syntax_expressions.specs.Expressions as spec;
 ghost use Rattle.tera_syntax_expressions.specs.Parts.{Follows, GoesOn, Nests};
 
-use crate::expressions::{Deep, Read, Replaced, Row};
+use crate::expressions::{ReadExpression, Read, Replaced, ReadRow};
 use crate::reader::Reader;
-use crate::signs::Application;
+use crate::operator_forms::Application;
 use std::alloc::Global;
 use tera_syntax_tokens::refusal::{Reason, Refusal};
 use tera_syntax_tokens::token::Kind;
@@ -22,7 +22,7 @@ impl<'s, F: Fn(Global, &mut Tokens<'_, 's>, usize, u8) -> Read<'s>> Reader<F> {
         &self,
         tokens: &mut Tokens<'_, 's>,
         start: usize,
-        x: &mut Deep<'s>,
+        x: &mut ReadExpression<'s>,
     ) -> Replaced
         requires { Nests self.now.below (F.pre self.now.expr) (F.post self.now.expr) }
         ensures { GoesOn spec.filter self.now start x.old x.new tokens.old result tokens.new }
@@ -31,7 +31,7 @@ impl<'s, F: Fn(Global, &mut Tokens<'_, 's>, usize, u8) -> Read<'s>> Reader<F> {
         if !is_word(tokens.kind()) {
             return Err(tokens.refuse(Reason::Expected(Kind::Name)));
         }
-        self.passed(tokens, Application::Filter, start, x)
+        self.application(tokens, Application::Filter, start, x)
     }
 
     /// `x is name`, or `x is not name`, from `is` on.
@@ -41,7 +41,7 @@ impl<'s, F: Fn(Global, &mut Tokens<'_, 's>, usize, u8) -> Read<'s>> Reader<F> {
         &self,
         tokens: &mut Tokens<'_, 's>,
         start: usize,
-        x: &mut Deep<'s>,
+        x: &mut ReadExpression<'s>,
     ) -> Replaced
         requires { Nests self.now.below (F.pre self.now.expr) (F.post self.now.expr) }
         ensures { GoesOn spec.tested self.now start x.old x.new tokens.old result tokens.new }
@@ -58,22 +58,22 @@ impl<'s, F: Fn(Global, &mut Tokens<'_, 's>, usize, u8) -> Read<'s>> Reader<F> {
     /// A test, from its name on.
     #[inline(always)]
     #[tactic(auto, unfolding(crate::specs::Expressions::test_by_name))]
-    fn test_by_name(&self, tokens: &mut Tokens<'_, 's>, start: usize, x: &mut Deep<'s>) -> Replaced
+    fn test_by_name(&self, tokens: &mut Tokens<'_, 's>, start: usize, x: &mut ReadExpression<'s>) -> Replaced
         requires { Nests self.now.below (F.pre self.now.expr) (F.post self.now.expr) }
         ensures { GoesOn spec.test_by_name self.now start x.old x.new tokens.old result tokens.new }
     {
         if !is_test_name(tokens.kind()) {
             return Err(tokens.refuse(Reason::Expected(Kind::Name)));
         }
-        self.passed(tokens, Application::Test, start, x)
+        self.application(tokens, Application::Test, start, x)
     }
 
     /// The arguments behind a name, if they are written, and the greatest depth.
     #[inline(always)]
     #[tactic(auto, unfolding(crate::specs::Expressions::given))]
-    pub(crate) fn given(&self, tokens: &mut Tokens<'_, 's>) -> Row<Argument<'s>>
+    pub(crate) fn optional_arguments(&self, tokens: &mut Tokens<'_, 's>) -> ReadRow<Argument<'s>>
         requires { Nests self.now.below (F.pre self.now.expr) (F.post self.now.expr) }
-        ensures { Follows (λ p. (arguments_of p.0.items, p.1)) spec.given self.now
+        ensures { Follows (λ p. (arguments_of p.0.items, p.1)) spec.optional_arguments self.now
             tokens.old result tokens.new }
     {
         if tokens.kind() != Kind::LeftParenthesis {

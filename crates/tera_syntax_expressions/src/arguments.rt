@@ -6,8 +6,8 @@ ghost use Rattle.tera_syntax_expressions.specs.Arguments as call;
 ghost use Rattle.tera_syntax_expressions.specs.Expressions as spec;
 ghost use Rattle.tera_syntax_expressions.specs.Parts.{FollowsRow, Nests, TakesPart, deep_of, position_of};
 
-use crate::commas::{between_commas, take_comma};
-use crate::expressions::{Deep, Depth, Read, Row};
+use crate::comma_lists::{between_commas, take_comma};
+use crate::expressions::{ReadExpression, Depth, Read, ReadRow};
 use crate::levels::kinds;
 use crate::precedence;
 use crate::reader::Reader;
@@ -17,7 +17,7 @@ use tera_errors::Span;
 use tera_syntax_tokens::refusal::{Reason, Refusal};
 use tera_syntax_tokens::token::Kind;
 use tera_syntax_tokens::tokens::{Tokens, is_word};
-use tera_syntax_tree::{Argument, Called, Expression};
+use tera_syntax_tree::{Argument, FunctionCall, Expression};
 
 /// With no more tokens ahead a call has 32 arguments at most. To search so short a row takes less than to build a tree.
 const FEW_TOKENS: usize = 128;
@@ -42,12 +42,12 @@ impl<'s, F: Fn(Global, &mut Tokens<'_, 's>, usize, u8) -> Read<'s>> Reader<F> {
 
     /// Arguments with commas between, up to a parenthesis, and the greatest depth.
     #[inline(never)]
-    pub(crate) fn arguments(&self, tokens: &mut Tokens<'_, 's>) -> Row<Argument<'s>>
+    pub(crate) fn arguments(&self, tokens: &mut Tokens<'_, 's>) -> ReadRow<Argument<'s>>
         requires { Nests self.now.below (F.pre self.now.expr) (F.post self.now.expr) }
         ensures { FollowsRow arguments_of spec.arguments_from NoArguments self.now
             tokens.old result tokens.new }
     {
-        if tokens.left() > FEW_TOKENS {
+        if tokens.count_left() > FEW_TOKENS {
             return self.many_arguments(tokens);
         }
         self.few_arguments(tokens)
@@ -56,7 +56,7 @@ impl<'s, F: Fn(Global, &mut Tokens<'_, 's>, usize, u8) -> Read<'s>> Reader<F> {
     /// The same where they are few: each is put at its place in a row.
     #[inline(always)]
     #[tactic(auto, using(crate::proofs::Placed::arguments_once), unfolding(crate::specs::Expressions::arguments_from))]
-    fn few_arguments(&self, tokens: &mut Tokens<'_, 's>) -> Row<Argument<'s>>
+    fn few_arguments(&self, tokens: &mut Tokens<'_, 's>) -> ReadRow<Argument<'s>>
         requires { Nests self.now.below (F.pre self.now.expr) (F.post self.now.expr) }
         ensures { FollowsRow arguments_of spec.arguments_from NoArguments self.now
             tokens.old result tokens.new }
@@ -148,8 +148,8 @@ fn make_call<'s>(
         IfOk result (λ e. expr_of e ≡ call.call_form name.now all span) }
 {
     if name == "super" {
-        return Ok(Expression::above(arguments, span));
+        return Ok(Expression::super_call(arguments, span));
     }
-    let called = Box::new(alloc, Called { name, arguments })?;
+    let called = Box::new(alloc, FunctionCall { name, arguments })?;
     Ok(Expression::call(called, span))
 }

@@ -6,11 +6,11 @@ ghost use Rattle.tera_syntax_expressions.specs.Parts.{GoesOn, Nests, deep_of};
 ghost use Rattle.tera_syntax_expressions.specs.Precedence as precedence;
 
 use crate::access::Access;
-use crate::expressions::{Deep, Read, Replaced};
+use crate::expressions::{ReadExpression, Read, Replaced};
 use crate::levels::{begins, gives, goes_on};
 use crate::precedence;
 use crate::reader::{Reader, read};
-use crate::signs::Infix::{self, Binary};
+use crate::operator_forms::Infix::{self, Binary};
 use std::alloc::Global;
 use tera_syntax_tokens::refusal::{Reason, Refusal};
 use tera_syntax_tokens::token::{Kind, Token};
@@ -27,8 +27,8 @@ impl<'s, F: Fn(Global, &mut Tokens<'_, 's>, usize, u8) -> Read<'s>> Reader<F> {
             (input tokens.old)) result tokens.new }
     {
         let ahead = tokens.ahead;
-        let rounds = tokens.left();
-        let opens = opened(tokens);
+        let rounds = tokens.count_left();
+        let opens = take_parentheses(tokens);
         let begins = begins(tokens.kind());
         if begins < floor_in(opens, floor) {
             return Err(tokens.refuse(Reason::NoExpression));
@@ -50,7 +50,7 @@ impl<'s, F: Fn(Global, &mut Tokens<'_, 's>, usize, u8) -> Read<'s>> Reader<F> {
         floor: u8,
         mut have: u8,
         mut start: usize,
-        mut x: Deep<'s>,
+        mut x: ReadExpression<'s>,
     ) -> Read<'s>
         requires { Nests self.now.below (F.pre self.now.expr) (F.post self.now.expr) }
         ensures { Takes deep_of (spec.climb self.now.limit (spec.expr self.now.below) rounds
@@ -81,7 +81,7 @@ impl<'s, F: Fn(Global, &mut Tokens<'_, 's>, usize, u8) -> Read<'s>> Reader<F> {
     /// What the next token goes on to.
     #[inline(always)]
     #[tactic(auto, unfolding(crate::specs::Expressions::operation, crate::specs::Expressions::applied, crate::specs::Expressions::suffixed))]
-    fn operation(&self, tokens: &mut Tokens<'_, 's>, start: usize, x: &mut Deep<'s>) -> Replaced
+    fn operation(&self, tokens: &mut Tokens<'_, 's>, start: usize, x: &mut ReadExpression<'s>) -> Replaced
         requires { Nests self.now.below (F.pre self.now.expr) (F.post self.now.expr) }
         ensures { GoesOn spec.operation self.now start x.old x.new tokens.old result tokens.new }
     {
@@ -103,18 +103,18 @@ impl<'s, F: Fn(Global, &mut Tokens<'_, 's>, usize, u8) -> Read<'s>> Reader<F> {
             Kind::FloorSlash => (precedence::MINUS, Binary(Operator::FloorDivide)),
             Kind::Percent => (precedence::MINUS, Binary(Operator::Remainder)),
             Kind::Power => (precedence::MINUS, Binary(Operator::Power)),
-            _ => return self.suffixed(tokens, start, x),
+            _ => return self.suffix_form(tokens, start, x),
         };
-        self.infixed(tokens, level, op, start, x)
+        self.infix_form(tokens, level, op, start, x)
     }
 
     /// What stands behind an operand and is no sign between two. It has a function of its own, so that no room for its
     /// answers is made ready at each sign.
     #[inline(never)]
     #[tactic(auto, unfolding(crate::specs::Expressions::suffixed))]
-    fn suffixed(&self, tokens: &mut Tokens<'_, 's>, start: usize, x: &mut Deep<'s>) -> Replaced
+    fn suffix_form(&self, tokens: &mut Tokens<'_, 's>, start: usize, x: &mut ReadExpression<'s>) -> Replaced
         requires { Nests self.now.below (F.pre self.now.expr) (F.post self.now.expr) }
-        ensures { GoesOn spec.suffixed self.now start x.old x.new tokens.old result tokens.new }
+        ensures { GoesOn spec.suffix_form self.now start x.old x.new tokens.old result tokens.new }
     {
         match tokens.kind() {
             Kind::If => self.choice(tokens, start, x),
@@ -144,12 +144,12 @@ fn floor_in(opens: usize, floor: u8) -> u8
 
 /// How many parentheses open here. They are taken.
 #[tactic(auto, unfolding(crate::specs::Expressions::opened))]
-pub(crate) fn opened(tokens: &mut Tokens<'_, '_>) -> usize
+pub(crate) fn take_parentheses(tokens: &mut Tokens<'_, '_>) -> usize
     ensures { spec.opened (left (input tokens.old)) [] (input tokens.old)
         ≡ Some (starts (tokens_of tokens.old.ahead.now) result, input tokens.new) }
 {
     let mut count = 0usize;
-    for _round in 0..tokens.left() {
+    for _round in 0..tokens.count_left() {
         if tokens.kind() != Kind::LeftParenthesis {
             break;
         }

@@ -7,8 +7,8 @@ ghost use Rattle.tera_syntax_expressions.specs.Keys.{key_at};
 ghost use Rattle.tera_syntax_expressions.specs.Parts.{FollowsRow, TakesItem, TakesEntry, Nests, deep_of};
 ghost use Rattle.tera_syntax_expressions.specs.Precedence as precedence;
 
-use crate::commas::{between_commas, take_comma};
-use crate::expressions::{Deep, Depth, Read, Row};
+use crate::comma_lists::{between_commas, take_comma};
+use crate::expressions::{ReadExpression, Depth, Read, ReadRow};
 use crate::precedence;
 use crate::reader::{Reader, read};
 use std::alloc::{AllocError, Global};
@@ -16,15 +16,15 @@ use tera_syntax_tokens::literal::{integer, literal};
 use tera_syntax_tokens::refusal::{Reason, Refusal};
 use tera_syntax_tokens::token::Kind;
 use tera_syntax_tokens::tokens::Tokens;
-use tera_syntax_tree::{Entry, Expression, Item, LiteralKey};
+use tera_syntax_tree::{EntryExpression, Expression, Item, LiteralKey};
 
 impl<'s, F: Fn(Global, &mut Tokens<'_, 's>, usize, u8) -> Read<'s>> Reader<F> {
     /// What stands behind a bracket: an array, or a comprehension where `for` follows the first expression.
     #[inline(never)]
     #[tactic(auto, unfolding(crate::specs::Expressions::bracketed))]
-    pub(crate) fn bracketed(&self, tokens: &mut Tokens<'_, 's>, start: usize) -> Read<'s>
+    pub(crate) fn brackets(&self, tokens: &mut Tokens<'_, 's>, start: usize) -> Read<'s>
         requires { Nests self.now.below (F.pre self.now.expr) (F.post self.now.expr) }
-        ensures { let meant = spec.bracketed self.now.limit (spec.expr self.now.below) start in
+        ensures { let meant = spec.brackets self.now.limit (spec.expr self.now.below) start in
             Takes deep_of (meant (input tokens.old)) result tokens.new }
     {
         if tokens.kind() == Kind::RightBracket {
@@ -49,7 +49,7 @@ impl<'s, F: Fn(Global, &mut Tokens<'_, 's>, usize, u8) -> Read<'s>> Reader<F> {
         tokens: &mut Tokens<'_, 's>,
         start: usize,
         is_spread: bool,
-        x: Deep<'s>,
+        x: ReadExpression<'s>,
     ) -> Read<'s>
         requires { Nests self.now.below (F.pre self.now.expr) (F.post self.now.expr) }
         ensures { let rule = spec.array self.now.limit (spec.expr self.now.below) in
@@ -62,7 +62,7 @@ impl<'s, F: Fn(Global, &mut Tokens<'_, 's>, usize, u8) -> Read<'s>> Reader<F> {
             is_spread,
             value: x.expression,
         })?;
-        let (items, depth) = self.items_behind(tokens, found, depth)?;
+        let (items, depth) = self.items_after_first(tokens, found, depth)?;
         let expression = Expression::array(items, tokens.span(start));
         self.node(tokens, depth, expression)
     }
@@ -70,14 +70,14 @@ impl<'s, F: Fn(Global, &mut Tokens<'_, 's>, usize, u8) -> Read<'s>> Reader<F> {
     /// All items, from behind the first, and the greatest depth.
     #[inline(always)]
     #[tactic(auto, unfolding(crate::specs::Expressions::items_behind))]
-    pub(crate) fn items_behind(
+    pub(crate) fn items_after_first(
         &self,
         tokens: &mut Tokens<'_, 's>,
         found: Vec<Item<'s>>,
         depth: usize,
-    ) -> Row<Item<'s>>
+    ) -> ReadRow<Item<'s>>
         requires { Nests self.now.below (F.pre self.now.expr) (F.post self.now.expr) }
-        ensures { let meant = spec.items_behind self.now.limit (spec.expr self.now.below)
+        ensures { let meant = spec.items_after_first self.now.limit (spec.expr self.now.below)
             (items_of found.entry.items) depth in
             Takes (λ p. (items_of p.0.items, p.1)) (meant (input tokens.old)) result tokens.new }
     {
@@ -92,7 +92,7 @@ impl<'s, F: Fn(Global, &mut Tokens<'_, 's>, usize, u8) -> Read<'s>> Reader<F> {
     /// Items with commas between, up to a bracket, behind those that were read.
     #[inline(always)]
     #[tactic(auto, unfolding(crate::specs::Expressions::items_from))]
-    fn items(&self, tokens: &mut Tokens<'_, 's>, all: Vec<Item<'s>>, depth: usize) -> Row<Item<'s>>
+    fn items(&self, tokens: &mut Tokens<'_, 's>, all: Vec<Item<'s>>, depth: usize) -> ReadRow<Item<'s>>
         requires { Nests self.now.below (F.pre self.now.expr) (F.post self.now.expr) }
         ensures { let meant = spec.items_from self.now.limit (spec.expr self.now.below)
             (left (input tokens.old)) (items_of all.entry.items) depth in
@@ -140,7 +140,7 @@ impl<'s, F: Fn(Global, &mut Tokens<'_, 's>, usize, u8) -> Read<'s>> Reader<F> {
     /// Entries with commas between, up to a brace, and the greatest depth.
     #[inline(always)]
     #[tactic(auto, unfolding(crate::specs::Expressions::entries_from))]
-    fn entries(&self, tokens: &mut Tokens<'_, 's>) -> Row<Entry<'s>>
+    fn entries(&self, tokens: &mut Tokens<'_, 's>) -> ReadRow<EntryExpression<'s>>
         requires { Nests self.now.below (F.pre self.now.expr) (F.post self.now.expr) }
         ensures { FollowsRow entries_of spec.entries_from NoEntries self.now
             tokens.old result tokens.new }
@@ -153,7 +153,7 @@ impl<'s, F: Fn(Global, &mut Tokens<'_, 's>, usize, u8) -> Read<'s>> Reader<F> {
 
     /// An entry, behind those that were read, and its depth.
     #[inline(always)]
-    fn entry(&self, tokens: &mut Tokens<'_, 's>, found: &mut Vec<Entry<'s>>) -> Depth
+    fn entry(&self, tokens: &mut Tokens<'_, 's>, found: &mut Vec<EntryExpression<'s>>) -> Depth
         requires { Nests self.now.below (F.pre self.now.expr) (F.post self.now.expr) }
         ensures { let expr = spec.expr self.now.below precedence.choice in
             TakesEntry (spec.entry_key (input tokens.old)) expr
@@ -167,7 +167,7 @@ impl<'s, F: Fn(Global, &mut Tokens<'_, 's>, usize, u8) -> Read<'s>> Reader<F> {
             Ok(x) => x,
             Err(refusal) => return Err(refusal),
         };
-        found.push(Entry {
+        found.push(EntryExpression {
             key,
             value: x.expression,
         })?;

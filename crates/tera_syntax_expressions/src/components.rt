@@ -7,7 +7,7 @@ ghost use Rattle.tera_syntax_expressions.specs.Expressions as spec;
 ghost use Rattle.tera_syntax_expressions.specs.Parts.{Follows, FollowsRow, Nests, TakesPart, deep_of};
 
 use crate::arguments::argument_name;
-use crate::expressions::{Deep, Depth, Read, Row, expr};
+use crate::expressions::{ReadExpression, Depth, Read, ReadRow, expr};
 use crate::precedence;
 use crate::reader::{Reader, read};
 use std::alloc::Global;
@@ -15,11 +15,11 @@ use tera_syntax_tokens::literal::literal;
 use tera_syntax_tokens::refusal::{Reason, Refusal};
 use tera_syntax_tokens::token::Kind;
 use tera_syntax_tokens::tokens::{Tokens, is_word};
-use tera_syntax_tree::{ComponentTag, Entry, Expression, LiteralKey, Quoted};
+use tera_syntax_tree::{ComponentTag, EntryExpression, Expression, LiteralKey, Quoted};
 
 /// Attributes up to where none begins, no deeper than `limit`, and the greatest depth.
 #[tactic(auto, unfolding(crate::specs::Expressions::attributes))]
-pub fn attributes<'s>(alloc: Global, tokens: &mut Tokens<'_, 's>, limit: usize) -> Row<Entry<'s>>
+pub fn attributes<'s>(alloc: Global, tokens: &mut Tokens<'_, 's>, limit: usize) -> ReadRow<EntryExpression<'s>>
     ensures { let meant = spec.attributes limit (input tokens.old) in
         Takes (λ p. (entries_of p.0.items, p.1)) meant result tokens.new }
 {
@@ -63,7 +63,7 @@ impl<'s, F: Fn(Global, &mut Tokens<'_, 's>, usize, u8) -> Read<'s>> Reader<F> {
         tokens: &mut Tokens<'_, 's>,
         start: usize,
         name: &'s str,
-        attributes: Vec<Entry<'s>>,
+        attributes: Vec<EntryExpression<'s>>,
         depth: usize,
     ) -> Read<'s>
         ensures { let all = entries_of attributes.entry.items in
@@ -83,13 +83,13 @@ impl<'s, F: Fn(Global, &mut Tokens<'_, 's>, usize, u8) -> Read<'s>> Reader<F> {
     /// Attributes up to where none begins, and the greatest depth.
     #[inline(never)]
     #[tactic(auto, unfolding(crate::specs::Expressions::attributes_from))]
-    pub(crate) fn attributes(&self, tokens: &mut Tokens<'_, 's>) -> Row<Entry<'s>>
+    pub(crate) fn attributes(&self, tokens: &mut Tokens<'_, 's>) -> ReadRow<EntryExpression<'s>>
         requires { Nests self.now.below (F.pre self.now.expr) (F.post self.now.expr) }
         ensures { FollowsRow entries_of spec.attributes_from NoEntries self.now
             tokens.old result tokens.new }
     {
         let (mut found, mut depth) = (Vec::new(self.alloc), 0usize);
-        for _round in 0..tokens.left() {
+        for _round in 0..tokens.count_left() {
             if !begins_attribute(tokens.kind()) {
                 return Ok((found, depth));
             }
@@ -105,7 +105,7 @@ impl<'s, F: Fn(Global, &mut Tokens<'_, 's>, usize, u8) -> Read<'s>> Reader<F> {
     /// An attribute, behind those that were read, and its depth.
     #[inline(always)]
     #[tactic(auto, unfolding(crate::specs::Expressions::any_attribute))]
-    fn any_attribute(&self, tokens: &mut Tokens<'_, 's>, found: &mut Vec<Entry<'s>>) -> Depth
+    fn any_attribute(&self, tokens: &mut Tokens<'_, 's>, found: &mut Vec<EntryExpression<'s>>) -> Depth
         requires { Nests self.now.below (F.pre self.now.expr) (F.post self.now.expr) }
         ensures { let meant = spec.any_attribute self.now.limit (spec.expr self.now.below) in
             TakesPart entries_of meant found.old found.new (input tokens.old) result tokens.new }
@@ -121,7 +121,7 @@ impl<'s, F: Fn(Global, &mut Tokens<'_, 's>, usize, u8) -> Read<'s>> Reader<F> {
     /// `name="text"` or `name={x}`
     #[inline(always)]
     #[tactic(auto, unfolding(crate::specs::Expressions::named_attribute))]
-    fn named_attribute(&self, tokens: &mut Tokens<'_, 's>, found: &mut Vec<Entry<'s>>) -> Depth
+    fn named_attribute(&self, tokens: &mut Tokens<'_, 's>, found: &mut Vec<EntryExpression<'s>>) -> Depth
         requires { Nests self.now.below (F.pre self.now.expr) (F.post self.now.expr) }
         ensures { let meant = spec.named_attribute self.now.limit (spec.expr self.now.below) in
             TakesPart entries_of meant found.old found.new (input tokens.old) result tokens.new }
@@ -137,14 +137,14 @@ impl<'s, F: Fn(Global, &mut Tokens<'_, 's>, usize, u8) -> Read<'s>> Reader<F> {
         };
         let key = Some(LiteralKey::Text(Quoted::Lent(name)));
         let value = x.expression;
-        found.push(Entry { key, value })?;
+        found.push(EntryExpression { key, value })?;
         Ok(x.depth)
     }
 
     /// `{...x}`, from behind its brace.
     #[inline(always)]
     #[tactic(auto, unfolding(crate::specs::Expressions::spread_attribute))]
-    fn spread_attribute(&self, tokens: &mut Tokens<'_, 's>, found: &mut Vec<Entry<'s>>) -> Depth
+    fn spread_attribute(&self, tokens: &mut Tokens<'_, 's>, found: &mut Vec<EntryExpression<'s>>) -> Depth
         requires { Nests self.now.below (F.pre self.now.expr) (F.post self.now.expr) }
         ensures { let meant = spec.spread_attribute self.now.limit (spec.expr self.now.below) in
             TakesPart entries_of meant found.old found.new (input tokens.old) result tokens.new }
@@ -153,12 +153,12 @@ impl<'s, F: Fn(Global, &mut Tokens<'_, 's>, usize, u8) -> Read<'s>> Reader<F> {
             Ok(()) => {}
             Err(refusal) => return Err(refusal),
         }
-        let x = match self.braced(tokens) {
+        let x = match self.braces(tokens) {
             Ok(x) => x,
             Err(refusal) => return Err(refusal),
         };
         let value = x.expression;
-        found.push(Entry { key: None, value })?;
+        found.push(EntryExpression { key: None, value })?;
         Ok(x.depth)
     }
 
@@ -172,7 +172,7 @@ impl<'s, F: Fn(Global, &mut Tokens<'_, 's>, usize, u8) -> Read<'s>> Reader<F> {
     {
         if tokens.kind() == Kind::LeftBrace {
             tokens.take();
-            return self.braced(tokens);
+            return self.braces(tokens);
         }
         if tokens.kind() != Kind::Text {
             return Err(tokens.refuse(Reason::Expected(Kind::Text)));
@@ -182,7 +182,7 @@ impl<'s, F: Fn(Global, &mut Tokens<'_, 's>, usize, u8) -> Read<'s>> Reader<F> {
             Some(text) => {
                 tokens.take();
                 let span = tokens.span(start);
-                Ok(Deep {
+                Ok(ReadExpression {
                     expression: Expression::Text { text, span },
                     depth: 1,
                 })
@@ -194,7 +194,7 @@ impl<'s, F: Fn(Global, &mut Tokens<'_, 's>, usize, u8) -> Read<'s>> Reader<F> {
     /// An expression that a brace closes.
     #[inline(always)]
     #[tactic(auto, unfolding(crate::specs::Expressions::braced))]
-    pub(crate) fn braced(&self, tokens: &mut Tokens<'_, 's>) -> Read<'s>
+    pub(crate) fn braces(&self, tokens: &mut Tokens<'_, 's>) -> Read<'s>
         requires { Nests self.now.below (F.pre self.now.expr) (F.post self.now.expr) }
         ensures { let meant = spec.braced self.now.limit (spec.expr self.now.below) in
             Takes deep_of (meant (input tokens.old)) result tokens.new }

@@ -5,11 +5,11 @@ ghost use Rattle.tera_syntax_tokens.specs.Prelude.{Takes, input};
 ghost use Rattle.tera_syntax_expressions.specs.Expressions as spec;
 ghost use Rattle.tera_syntax_expressions.specs.Parts.{Follows, GoesOn, Nests, deep_of, names_of, part_of};
 
-use crate::expressions::{Deep, Read, Replaced};
-use crate::headings::{LoopNames, names};
-use crate::making::{absent, present};
+use crate::expressions::{ReadExpression, Read, Replaced};
+use crate::headings::{HeadingNames, names};
+use crate::shared_forms::{no_part, some_part};
 use crate::precedence;
-use crate::reader::{Part, Reader, read, taken};
+use crate::reader::{OptionalPart, Reader, read, take_operand};
 use std::alloc::Global;
 use tera_syntax_tokens::refusal::Refusal;
 use tera_syntax_tokens::token::Kind;
@@ -24,7 +24,7 @@ impl<'s, F: Fn(Global, &mut Tokens<'_, 's>, usize, u8) -> Read<'s>> Reader<F> {
         &self,
         tokens: &mut Tokens<'_, 's>,
         start: usize,
-        x: &mut Deep<'s>,
+        x: &mut ReadExpression<'s>,
     ) -> Replaced
         requires { Nests self.now.below (F.pre self.now.expr) (F.post self.now.expr) }
         ensures { GoesOn spec.comprehension self.now start x.old x.new tokens.old result tokens.new }
@@ -43,10 +43,10 @@ impl<'s, F: Fn(Global, &mut Tokens<'_, 's>, usize, u8) -> Read<'s>> Reader<F> {
         &self,
         tokens: &mut Tokens<'_, 's>,
         start: usize,
-        x: &mut Deep<'s>,
-        names: LoopNames<'s>,
-        target: Deep<'s>,
-        only: Part<'s>,
+        x: &mut ReadExpression<'s>,
+        names: HeadingNames<'s>,
+        target: ReadExpression<'s>,
+        only: OptionalPart<'s>,
     ) -> Replaced
         ensures { let rule = spec.comprehension_made self.now.limit (spec.expr self.now.below) in
             let meant = rule start (deep_of x.old) (names_of names.entry) (deep_of target.entry)
@@ -57,7 +57,7 @@ impl<'s, F: Fn(Global, &mut Tokens<'_, 's>, usize, u8) -> Read<'s>> Reader<F> {
         let (a, b, c) = (x.depth, target.depth, only.depth);
         let depth = a.max(b.max(c));
         let collected = Collected {
-            value: taken(x),
+            value: take_operand(x),
             heading: heading(names, target.expression),
             condition: only.expression,
         };
@@ -69,21 +69,21 @@ impl<'s, F: Fn(Global, &mut Tokens<'_, 's>, usize, u8) -> Read<'s>> Reader<F> {
     /// The condition of a comprehension, if it is written, and how deep it is.
     #[inline(always)]
     #[tactic(auto, unfolding(crate::specs::Expressions::condition))]
-    pub(crate) fn condition(&self, tokens: &mut Tokens<'_, 's>) -> Result<Part<'s>, Refusal>
+    pub(crate) fn condition(&self, tokens: &mut Tokens<'_, 's>) -> Result<OptionalPart<'s>, Refusal>
         requires { Nests self.now.below (F.pre self.now.expr) (F.post self.now.expr) }
         ensures { Follows part_of spec.condition self.now tokens.old result tokens.new }
     {
         if tokens.kind() != Kind::If {
-            return Ok(absent());
+            return Ok(no_part());
         }
         tokens.take();
         let x = read!(self.sub(tokens, precedence::OR));
-        Ok(present(self.alloc, x)?)
+        Ok(some_part(self.alloc, x)?)
     }
 }
 
 /// The names of a loop and what it goes over, in one.
-fn heading<'s>(names: LoopNames<'s>, target: Expression<'s>) -> Heading<'s>
+fn heading<'s>(names: HeadingNames<'s>, target: Expression<'s>) -> Heading<'s>
     ensures key { option_copied result.key ≡ option_copied names.entry.key }
     ensures name { result.name.now ≡ names.entry.name.now }
     ensures target { expr_of result.target ≡ expr_of target.entry }

@@ -12,7 +12,7 @@ use tera_syntax_tree::Expression;
 
 /// An expression, and how deep it is.
 #[derive(Drop)]
-pub struct Deep<'s> {
+pub struct ReadExpression<'s> {
     /// The expression.
     pub expression: Expression<'s>,
     /// How deep it is: a leaf is 1 deep.
@@ -20,13 +20,13 @@ pub struct Deep<'s> {
 }
 
 /// What reading an expression gives.
-pub(crate) type Read<'s> = Result<Deep<'s>, Refusal>;
+pub(crate) type Read<'s> = Result<ReadExpression<'s>, Refusal>;
 
 /// What going on from an operand gives, where the form that is made of it stands in its place.
 pub(crate) type Replaced = Result<(), Refusal>;
 
 /// What reading a row gives: its parts, and how deep the deepest is.
-pub type Row<T> = Result<(Vec<T>, usize), Refusal>;
+pub type ReadRow<T> = Result<(Vec<T>, usize), Refusal>;
 
 /// What reading one part of a row gives, which is put among the others: how deep it is.
 pub(crate) type Depth = Result<usize, Refusal>;
@@ -37,7 +37,7 @@ pub fn expr<'s>(
     tokens: &mut Tokens<'_, 's>,
     limit: usize,
     floor: u8,
-) -> Result<Deep<'s>, Refusal>
+) -> Result<ReadExpression<'s>, Refusal>
     ensures { Takes deep_of (spec.expr limit floor (input tokens.old)) result tokens.new }
 {
     let reader = reader_within!(limit, alloc, tokens, expr);

@@ -4,7 +4,7 @@ ghost use Rattle.tera_syntax_tokens.specs.Prelude.{Takes, input};
 ghost use Rattle.tera_syntax_expressions.specs.Expressions as spec;
 ghost use Rattle.tera_syntax_expressions.specs.Parts.{FollowsRow, Nests, TakesPart};
 
-use crate::expressions::{Deep, Depth, Read, Row, expr};
+use crate::expressions::{ReadExpression, Depth, Read, ReadRow, expr};
 use crate::reader::{Reader, reader_within};
 use std::alloc::Global;
 use tera_syntax_tokens::refusal::{Reason, Refusal};
@@ -18,7 +18,7 @@ pub fn filters<'s>(
     alloc: Global,
     tokens: &mut Tokens<'_, 's>,
     limit: usize,
-) -> Row<SectionFilter<'s>>
+) -> ReadRow<SectionFilter<'s>>
     ensures { let meant = spec.filters limit (input tokens.old) in
         Takes (λ p. (filters_of p.0.items, p.1)) meant result tokens.new }
 {
@@ -29,13 +29,13 @@ pub fn filters<'s>(
 impl<'s, F: Fn(Global, &mut Tokens<'_, 's>, usize, u8) -> Read<'s>> Reader<F> {
     /// Filters with bars between, and the greatest depth.
     #[tactic(auto, unfolding(crate::specs::Expressions::filters_from))]
-    fn filters(&self, tokens: &mut Tokens<'_, 's>) -> Row<SectionFilter<'s>>
+    fn filters(&self, tokens: &mut Tokens<'_, 's>) -> ReadRow<SectionFilter<'s>>
         requires { Nests self.now.below (F.pre self.now.expr) (F.post self.now.expr) }
         ensures { FollowsRow filters_of spec.filters_from NoFilters self.now
             tokens.old result tokens.new }
     {
         let (mut found, mut depth) = (Vec::new(self.alloc), 0usize);
-        for _round in 0..tokens.left() {
+        for _round in 0..tokens.count_left() {
             let x = match self.section_filter(tokens, &mut found) {
                 Ok(x) => x,
                 Err(refusal) => return Err(refusal),
@@ -66,7 +66,7 @@ impl<'s, F: Fn(Global, &mut Tokens<'_, 's>, usize, u8) -> Read<'s>> Reader<F> {
         let start = tokens.start();
         let name = tokens.text();
         tokens.take();
-        let (arguments, depth) = match self.given(tokens) {
+        let (arguments, depth) = match self.optional_arguments(tokens) {
             Ok(given) => given,
             Err(refusal) => return Err(refusal),
         };

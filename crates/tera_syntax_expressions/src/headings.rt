@@ -10,7 +10,7 @@ use tera_syntax_tokens::tokens::Tokens;
 
 /// What a loop calls its items, and their keys where it names them.
 #[derive(Drop)]
-pub struct LoopNames<'s> {
+pub struct HeadingNames<'s> {
     /// The key's name stands first in the text.
     pub key: Option<&'s str>,
     /// The value's.
@@ -19,30 +19,30 @@ pub struct LoopNames<'s> {
 
 /// Takes the names of a loop and the `in` behind them.
 #[tactic(auto, unfolding(crate::specs::Headings::calls, crate::specs::Headings::calls_behind))]
-pub fn names<'s>(tokens: &mut Tokens<'_, 's>) -> Result<LoopNames<'s>, Refusal>
+pub fn names<'s>(tokens: &mut Tokens<'_, 's>) -> Result<HeadingNames<'s>, Refusal>
     ensures { Takes names_of (spec.calls (input tokens.old)) result tokens.new }
 {
     let first = name(tokens)?;
     if tokens.kind() != Kind::Comma {
-        return called(tokens, None, first);
+        return finish_names(tokens, None, first);
     }
     tokens.take();
     let value = name(tokens)?;
-    called(tokens, Some(first), value)
+    finish_names(tokens, Some(first), value)
 }
 
 /// What stands behind the last name.
 #[tactic(auto, unfolding(crate::specs::Headings::called))]
-fn called<'s>(
+fn finish_names<'s>(
     tokens: &mut Tokens<'_, 's>,
     key: Option<&'s str>,
     name: &'s str,
-) -> Result<LoopNames<'s>, Refusal>
+) -> Result<HeadingNames<'s>, Refusal>
     ensures { let meant = spec.called (option_copied key.entry) name.now in
         Takes names_of (meant (input tokens.old)) result tokens.new }
 {
     tokens.expect(Kind::In)?;
-    Ok(LoopNames { key, name })
+    Ok(HeadingNames { key, name })
 }
 
 /// Takes a name.

@@ -6,7 +6,7 @@ mod applications;
 mod arguments;
 mod climb;
 mod collections;
-mod commas;
+mod comma_lists;
 /// Components that are called, and their attributes.
 pub mod components;
 mod comprehensions;
@@ -16,10 +16,10 @@ pub mod expressions;
 pub mod filters;
 /// What loops call their items.
 pub mod headings;
-mod leaves;
+mod operands;
 mod levels;
 mod literals;
-mod making;
+mod shared_forms;
 mod many_arguments;
 mod operators;
 /// Signatures of components.
@@ -27,4 +27,4 @@ pub mod parameters;
 /// Levels of precedence.
 pub mod precedence;
 mod reader;
-mod signs;
+mod operator_forms;

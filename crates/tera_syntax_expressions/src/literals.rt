@@ -5,7 +5,7 @@ ghost use Rattle.tera_syntax_tokens.specs.Prelude.{kind, Takes, input};
 ghost use Rattle.tera_syntax_expressions.specs.Literals as spec;
 
 use crate::collections::key_at;
-use crate::commas::{between_commas, take_comma};
+use crate::comma_lists::{between_commas, take_comma};
 use std::alloc::{AllocError, Global};
 use tera_syntax_tokens::literal::{integer, literal};
 use tera_syntax_tokens::refusal::{Reason, Refusal};
@@ -14,8 +14,8 @@ use tera_syntax_tokens::tokens::Tokens;
 use tera_syntax_tree::{Literal, LiteralEntry, LiteralKey};
 
 /// A value that is written out, no deeper than `limit`.
-#[cycle(written)]
-pub(crate) fn written<'s>(
+#[cycle(written_value)]
+pub(crate) fn written_value<'s>(
     alloc: Global,
     tokens: &mut Tokens<'_, 's>,
     limit: usize,
@@ -29,7 +29,7 @@ pub(crate) fn written<'s>(
 }
 
 /// A value whose parts are no deeper than `limit`.
-#[cycle(written)]
+#[cycle(written_value)]
 fn with_parts<'s>(
     alloc: Global,
     tokens: &mut Tokens<'_, 's>,
@@ -51,14 +51,14 @@ fn with_parts<'s>(
         }
         Kind::Minus => {
             tokens.take();
-            negative(tokens)
+            negative_integer(tokens)
         }
-        _ => plain(alloc, tokens),
+        _ => plain_literal(alloc, tokens),
     }
 }
 
 /// Values with commas between, up to a bracket.
-#[cycle(written)]
+#[cycle(written_value)]
 fn items<'s>(
     alloc: Global,
     tokens: &mut Tokens<'_, 's>,
@@ -73,7 +73,7 @@ fn items<'s>(
 }
 
 /// A value, behind those that were read.
-#[cycle(written)]
+#[cycle(written_value)]
 fn item<'s>(
     alloc: Global,
     tokens: &mut Tokens<'_, 's>,
@@ -83,7 +83,7 @@ fn item<'s>(
     ensures { let meant = spec.written_item (spec.written limit) (literals_of found.old.items) in
         Takes (λ done. literals_of found.new.items) (meant (input tokens.old)) result tokens.new }
 {
-    let value = match written(alloc, tokens, limit) {
+    let value = match written_value(alloc, tokens, limit) {
         Ok(value) => value,
         Err(refusal) => return Err(refusal),
     };
@@ -92,7 +92,7 @@ fn item<'s>(
 }
 
 /// Entries with commas between, up to a brace.
-#[cycle(written)]
+#[cycle(written_value)]
 fn entries<'s>(
     alloc: Global,
     tokens: &mut Tokens<'_, 's>,
@@ -107,7 +107,7 @@ fn entries<'s>(
 }
 
 /// An entry, behind those that were read.
-#[cycle(written)]
+#[cycle(written_value)]
 fn entry<'s>(
     alloc: Global,
     tokens: &mut Tokens<'_, 's>,
@@ -122,7 +122,7 @@ fn entry<'s>(
         Ok(key) => key,
         Err(refusal) => return Err(refusal),
     };
-    let value = match written(alloc, tokens, limit) {
+    let value = match written_value(alloc, tokens, limit) {
         Ok(value) => value,
         Err(refusal) => return Err(refusal),
     };
@@ -147,7 +147,7 @@ fn key<'s>(alloc: Global, tokens: &mut Tokens<'_, 's>) -> Result<LiteralKey<'s>,
 
 /// An integer behind a minus.
 #[tactic(auto, unfolding(crate::specs::Literals::negative))]
-fn negative<'s>(tokens: &mut Tokens<'_, 's>) -> Result<Literal<'s>, Refusal>
+fn negative_integer<'s>(tokens: &mut Tokens<'_, 's>) -> Result<Literal<'s>, Refusal>
     ensures { Takes written_of (spec.negative (input tokens.old)) result tokens.new }
 {
     if tokens.kind() != Kind::Int {
@@ -163,7 +163,7 @@ fn negative<'s>(tokens: &mut Tokens<'_, 's>) -> Result<Literal<'s>, Refusal>
 }
 
 /// A constant, an integer or a text.
-fn plain<'s>(alloc: Global, tokens: &mut Tokens<'_, 's>) -> Result<Literal<'s>, Refusal>
+fn plain_literal<'s>(alloc: Global, tokens: &mut Tokens<'_, 's>) -> Result<Literal<'s>, Refusal>
     ensures { let i = input tokens.old in
         Takes written_of (spec.literal_at (spec.plain_at i) i) result tokens.new }
 {

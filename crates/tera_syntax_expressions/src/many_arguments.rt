@@ -7,8 +7,8 @@ ghost use Rattle.tera_syntax_expressions.specs.Expressions as spec;
 ghost use Rattle.tera_syntax_expressions.specs.Parts.{FollowsRow, Nests, by_name, named_arguments};
 
 use crate::arguments::argument_name;
-use crate::commas::{between_commas, take_comma};
-use crate::expressions::{Deep, Depth, Read, Row};
+use crate::comma_lists::{between_commas, take_comma};
+use crate::expressions::{ReadExpression, Depth, Read, ReadRow};
 use crate::precedence;
 use crate::reader::Reader;
 use std::alloc::{AllocError, Global};
@@ -26,7 +26,7 @@ impl<'s, F: Fn(Global, &mut Tokens<'_, 's>, usize, u8) -> Read<'s>> Reader<F> {
     /// however many there are and in whatever order they stand.
     #[inline(never)]
     #[tactic(auto, using(crate::proofs::Placed::arguments_once), unfolding(crate::specs::Expressions::arguments_from))]
-    pub(crate) fn many_arguments(&self, tokens: &mut Tokens<'_, 's>) -> Row<Argument<'s>>
+    pub(crate) fn many_arguments(&self, tokens: &mut Tokens<'_, 's>) -> ReadRow<Argument<'s>>
         requires { Nests self.now.below (F.pre self.now.expr) (F.post self.now.expr) }
         ensures { FollowsRow arguments_of spec.arguments_from NoArguments self.now
             tokens.old result tokens.new }
@@ -34,7 +34,7 @@ impl<'s, F: Fn(Global, &mut Tokens<'_, 's>, usize, u8) -> Read<'s>> Reader<F> {
         let mut found = BTreeMap::new(self.alloc);
         let mut depth = 0;
         between_commas!(tokens, Kind::RightParenthesis, self.argument_by_name(tokens, &mut found);
-            x => depth = depth.max(x); (in_order(self.alloc, found)?, depth))
+            x => depth = depth.max(x); (arguments_by_name(self.alloc, found)?, depth))
     }
 
     /// An argument, put among those that were read, and its depth.
@@ -67,7 +67,7 @@ impl<'s, F: Fn(Global, &mut Tokens<'_, 's>, usize, u8) -> Read<'s>> Reader<F> {
 }
 
 /// The arguments, in the order of their names.
-fn in_order<'s>(alloc: Global, found: ByName<'s>) -> Result<Vec<Argument<'s>>, AllocError>
+fn arguments_by_name<'s>(alloc: Global, found: ByName<'s>) -> Result<Vec<Argument<'s>>, AllocError>
     ensures { IfOk result (λ all. arguments_of all.items ≡ named_arguments found.entry.entries) }
 {
     let mut all = Vec::with_capacity(alloc, found.len())?;

@@ -5,10 +5,10 @@ ghost use Rattle.tera_syntax_tokens.specs.Prelude.{span, Takes, input};
 ghost use Rattle.tera_syntax_expressions.specs.Expressions as spec;
 ghost use Rattle.tera_syntax_expressions.specs.Parts.{GoesOn, Nests, deep_of, infix_of, prefix_of};
 
-use crate::expressions::{Deep, Read, Replaced};
+use crate::expressions::{ReadExpression, Read, Replaced};
 use crate::precedence;
-use crate::reader::{Reader, read, taken};
-use crate::signs::{Infix, Prefix, make_infix, make_prefix};
+use crate::reader::{Reader, read, take_operand};
+use crate::operator_forms::{Infix, Prefix, make_infix, make_prefix};
 use std::alloc::Global;
 use tera_syntax_tokens::refusal::{Reason, Refusal};
 use tera_syntax_tokens::token::Kind;
@@ -19,9 +19,9 @@ impl<'s, F: Fn(Global, &mut Tokens<'_, 's>, usize, u8) -> Read<'s>> Reader<F> {
     /// `-x` or `not x`, where the operand is of this level or above.
     #[inline(never)]
     #[tactic(auto, unfolding(crate::specs::Expressions::prefixed))]
-    pub(crate) fn prefixed(&self, tokens: &mut Tokens<'_, 's>, level: u8, op: Prefix) -> Read<'s>
+    pub(crate) fn prefix_form(&self, tokens: &mut Tokens<'_, 's>, level: u8, op: Prefix) -> Read<'s>
         requires { Nests self.now.below (F.pre self.now.expr) (F.post self.now.expr) }
-        ensures { let meant = spec.prefixed self.now.limit (spec.expr self.now.below) level in
+        ensures { let meant = spec.prefix_form self.now.limit (spec.expr self.now.below) level in
             Takes deep_of (meant (prefix_of op) (input tokens.old)) result tokens.new }
     {
         let start = tokens.start();
@@ -35,23 +35,23 @@ impl<'s, F: Fn(Global, &mut Tokens<'_, 's>, usize, u8) -> Read<'s>> Reader<F> {
     /// An operator and what stands behind it, of this level or above.
     #[inline(never)]
     #[tactic(auto, unfolding(crate::specs::Expressions::infixed))]
-    pub(crate) fn infixed(
+    pub(crate) fn infix_form(
         &self,
         tokens: &mut Tokens<'_, 's>,
         level: u8,
         op: Infix,
         start: usize,
-        x: &mut Deep<'s>,
+        x: &mut ReadExpression<'s>,
     ) -> Replaced
         requires { Nests self.now.below (F.pre self.now.expr) (F.post self.now.expr) }
-        ensures { let meant = spec.infixed self.now.limit (spec.expr self.now.below) level
+        ensures { let meant = spec.infix_form self.now.limit (spec.expr self.now.below) level
             (infix_of op) start (deep_of x.old) in
             Takes (λ done. deep_of x.new) (meant (input tokens.old)) result tokens.new }
     {
         tokens.take();
         let y = read!(self.sub(tokens, level));
         let depth = x.depth.max(y.depth);
-        let (left, right) = (taken(x), y.expression);
+        let (left, right) = (take_operand(x), y.expression);
         let operands = Box::new(self.alloc, Operands { left, right })?;
         self.put(
             tokens,
@@ -68,7 +68,7 @@ impl<'s, F: Fn(Global, &mut Tokens<'_, 's>, usize, u8) -> Read<'s>> Reader<F> {
         &self,
         tokens: &mut Tokens<'_, 's>,
         start: usize,
-        x: &mut Deep<'s>,
+        x: &mut ReadExpression<'s>,
     ) -> Replaced
         requires { Nests self.now.below (F.pre self.now.expr) (F.post self.now.expr) }
         ensures { GoesOn spec.not_in self.now start x.old x.new tokens.old result tokens.new }
@@ -78,7 +78,7 @@ impl<'s, F: Fn(Global, &mut Tokens<'_, 's>, usize, u8) -> Read<'s>> Reader<F> {
             return Err(tokens.refuse(Reason::Expected(Kind::In)));
         }
         let within = Infix::Binary(BinaryOperator::In);
-        self.infixed(tokens, precedence::CONCATENATION, within, start, x)?;
+        self.infix_form(tokens, precedence::CONCATENATION, within, start, x)?;
         self.inverse(tokens, start, x)
     }
 
@@ -89,7 +89,7 @@ impl<'s, F: Fn(Global, &mut Tokens<'_, 's>, usize, u8) -> Read<'s>> Reader<F> {
         &self,
         tokens: &mut Tokens<'_, 's>,
         start: usize,
-        x: &mut Deep<'s>,
+        x: &mut ReadExpression<'s>,
     ) -> Replaced
         requires { Nests self.now.below (F.pre self.now.expr) (F.post self.now.expr) }
         ensures { GoesOn spec.choice self.now start x.old x.new tokens.old result tokens.new }
@@ -98,18 +98,18 @@ impl<'s, F: Fn(Global, &mut Tokens<'_, 's>, usize, u8) -> Read<'s>> Reader<F> {
         let y = read!(self.sub(tokens, precedence::OR));
         tokens.expect(Kind::Else)?;
         let z = read!(self.sub(tokens, precedence::CHOICE));
-        self.chosen(tokens, start, x, y, z)
+        self.choose(tokens, start, x, y, z)
     }
 
     /// `x if y else z`, where all three were read.
     #[inline(never)]
-    fn chosen(
+    fn choose(
         &self,
         tokens: &Tokens<'_, 's>,
         start: usize,
-        x: &mut Deep<'s>,
-        y: Deep<'s>,
-        z: Deep<'s>,
+        x: &mut ReadExpression<'s>,
+        y: ReadExpression<'s>,
+        z: ReadExpression<'s>,
     ) -> Replaced
         ensures { let i = input tokens.now in
             let a = deep_of x.old in let b = deep_of y.entry in let c = deep_of z.entry in
@@ -120,7 +120,7 @@ impl<'s, F: Fn(Global, &mut Tokens<'_, 's>, usize, u8) -> Read<'s>> Reader<F> {
     {
         let depth = x.depth.max(y.depth.max(z.depth));
         let choice = Choice {
-            value: taken(x),
+            value: take_operand(x),
             condition: y.expression,
             other: z.expression,
         };

@@ -8,7 +8,7 @@ ghost use Rattle.tera_syntax_expressions.specs.Parameters as spec;
 ghost use Rattle.tera_syntax_expressions.specs.Parts.{parameters_of, signature_names};
 
 use crate::headings::name;
-use crate::literals::written;
+use crate::literals::written_value;
 use std::alloc::Global;
 use std::collections::BTreeSet;
 use tera_syntax_tokens::refusal::{Reason, Refusal};
@@ -72,7 +72,7 @@ fn parameters<'s>(alloc: Global, tokens: &mut Tokens<'_, 's>, limit: usize) -> P
         Takes parameters_of (spec.parameters_from limit (left i) [] i) result tokens.new }
 {
     let mut found = Vec::new(alloc);
-    for _round in 0..tokens.left() {
+    for _round in 0..tokens.count_left() {
         if tokens.kind() == Kind::Spread {
             tokens.take();
             match name(tokens) {
@@ -177,7 +177,7 @@ fn default_value<'s>(
         return Ok(None);
     }
     tokens.take();
-    let value = written(alloc, tokens, limit)?;
+    let value = written_value(alloc, tokens, limit)?;
     Ok(Some(value))
 }
 

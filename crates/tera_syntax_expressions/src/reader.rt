@@ -5,7 +5,7 @@ ghost use Rattle.tera_syntax_expressions.specs.Expressions as spec;
 ghost use Rattle.std.specs.Prelude.{◌≡◌};
 ghost use Rattle.tera_syntax_expressions.specs.Parts.{IsEmptied, Nests, deep_of};
 
-use crate::expressions::{Deep, Read, Replaced};
+use crate::expressions::{ReadExpression, Read, Replaced};
 use std::alloc::Global;
 use std::mem::{forget, replace};
 use tera_errors::Span;
@@ -15,7 +15,7 @@ use tera_syntax_tree::Expression;
 
 /// A part that need not be written, in a box if it is, and how deep it is.
 #[derive(Drop)]
-pub(crate) struct Part<'s> {
+pub(crate) struct OptionalPart<'s> {
     pub(crate) expression: Option<Box<Expression<'s>>>,
     pub(crate) depth: usize,
 }
@@ -82,7 +82,7 @@ impl<'s, F: Fn(Global, &mut Tokens<'_, 's>, usize, u8) -> Read<'s>> Reader<F> {
         if depth >= self.limit {
             return Err(tokens.refuse(Reason::TooDeep));
         }
-        Ok(Deep {
+        Ok(ReadExpression {
             expression: x,
             depth: depth + 1,
         })
@@ -96,7 +96,7 @@ impl<'s, F: Fn(Global, &mut Tokens<'_, 's>, usize, u8) -> Read<'s>> Reader<F> {
         tokens: &Tokens<'_, 's>,
         depth: usize,
         form: Expression<'s>,
-        x: &mut Deep<'s>,
+        x: &mut ReadExpression<'s>,
     ) -> Replaced
         requires { IsEmptied x.now }
         ensures { Takes (λ done. deep_of x.new) (spec.node self.now.limit depth (expr_of form.entry)
@@ -114,7 +114,7 @@ impl<'s, F: Fn(Global, &mut Tokens<'_, 's>, usize, u8) -> Read<'s>> Reader<F> {
 
 /// Takes an operand out of its place, up to when the form that is made of it is put there.
 #[inline(always)]
-pub(crate) fn taken<'s>(x: &mut Deep<'s>) -> Expression<'s>
+pub(crate) fn take_operand<'s>(x: &mut ReadExpression<'s>) -> Expression<'s>
     ensures value { expr_of result ≡ expr_of x.old.expression }
     ensures emptied { IsEmptied x.new }
 {

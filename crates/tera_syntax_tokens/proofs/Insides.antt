@@ -3,7 +3,7 @@ use Rattle.std.proofs.Common.{◌≡◌, ℕ, zero, suc, ◌+◌, ◌-◌, ◌<�
 use Rattle.std.proofs.lemmas.Bool.{and_parts}
 use Rattle.std.proofs.lemmas.List.{drop_more, drop-drop, map-append}
 use Rattle.tera_errors.specs.Site.{Text}
-use Rattle.tera_syntax_tokens.specs.declared.inside.Ending.{Ending}
+use Rattle.tera_syntax_tokens.specs.declared.tag_tokens.Ending.{Ending}
 use Rattle.tera_syntax_tokens.specs.Token.{Token, token_of, tokens_of, next_token, is_blank}
 use Rattle.tera_syntax_tokens.specs.Inside.{Inside, inside, closing, closing_in, open_after, hyphen, prefixed, token_then}
 use Rattle.tera_syntax_tokens.specs.Bytes.{begins}

@@ -8,7 +8,7 @@ use Rattle.std.specs.Str.{IsUtf8, IsCharBoundary}
 use denote.Enum.Bare.{sameb}
 use Rattle.tera_errors.specs.Site.{Text}
 use Rattle.tera_syntax_tokens.specs.contracts.cut.Tag.{the_type}
-use Rattle.tera_syntax_tokens.specs.declared.inside.Ending.{Ending}
+use Rattle.tera_syntax_tokens.specs.declared.tag_tokens.Ending.{Ending}
 use Rattle.tera_syntax_tokens.specs.declared.token.Kind.TheVariants as k
 use Rattle.tera_syntax_tokens.specs.declared.token.Measure.{Measure}
 use Rattle.tera_syntax_tokens.specs.Bytes.{begins, position, leading}

@@ -4,8 +4,8 @@ use Rattle.tera_syntax_tokens.specs.Token.{tokens_of}
 use Rattle.tera_syntax_tokens.specs.declared.token.Token as token
 use Rattle.tera_syntax_tokens.specs.Inside.{Inside}
 use Rattle.tera_syntax_tokens.specs.Cut.{Piece, Words, Comment, Variable, Block, FoundPiece}
-use Rattle.tera_syntax_tokens.specs.declared.inside.Ending.{Ending}
-use Rattle.tera_syntax_tokens.specs.declared.inside.Inside as inside
+use Rattle.tera_syntax_tokens.specs.declared.tag_tokens.Ending.{Ending}
+use Rattle.tera_syntax_tokens.specs.declared.tag_tokens.Inside as inside
 use Rattle.tera_syntax_tokens.specs.declared.cut.Piece as piece
 use Rattle.tera_syntax_tokens.specs.declared.cut.Piece.TheVariants as variant
 use Rattle.tera_syntax_tokens.specs.declared.cut.FoundPiece as found

@@ -5,7 +5,7 @@ use Rattle.tera_syntax_tokens.specs.declared.token.Kind.{Kind}
 use Rattle.tera_syntax_tokens.specs.declared.token.Kind.TheVariants as k
 use Rattle.tera_syntax_tokens.specs.Bytes.{begins}
 use Rattle.tera_syntax_tokens.specs.Token.{Token, next_token, is_blank}
-use Rattle.tera_syntax_tokens.specs.declared.inside.Ending.{Ending}
+use Rattle.tera_syntax_tokens.specs.declared.tag_tokens.Ending.{Ending}
 
 abbrev pub hyphen : Text
 hyphen = codes "-"

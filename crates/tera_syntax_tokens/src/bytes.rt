@@ -6,7 +6,7 @@ ghost use Rattle.tera_syntax_tokens.specs.Bytes as spec;
 use memchr::{memchr, memchr3};
 
 /// The bytes from a position on.
-pub(crate) fn after(bytes: &[u8], i: usize) -> &[u8]
+pub(crate) fn bytes_from(bytes: &[u8], i: usize) -> &[u8]
     requires { i ≤ length bytes.now }
     ensures { result.now ≡ drop i bytes.now }
 {
@@ -14,7 +14,7 @@ pub(crate) fn after(bytes: &[u8], i: usize) -> &[u8]
 }
 
 /// The bytes up to a position.
-pub(crate) fn before(bytes: &[u8], i: usize) -> &[u8]
+pub(crate) fn bytes_to(bytes: &[u8], i: usize) -> &[u8]
     requires { i ≤ length bytes.now }
     ensures { result.now ≡ take i bytes.now }
 {
@@ -71,7 +71,7 @@ pub(crate) fn position(word: &[u8], bytes: &[u8]) -> usize
     ensures { result ≡ spec.position (spec.begins word.now) bytes.now }
 {
     for i in 0..bytes.len() {
-        if begins(word, after(bytes, i)) {
+        if begins(word, bytes_from(bytes, i)) {
             return i;
         }
     }

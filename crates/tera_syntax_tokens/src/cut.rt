@@ -14,8 +14,8 @@ ghost use Rattle.tera_syntax_tokens.specs.Token.{tokens_of};
 ghost use Rattle.tera_syntax_tokens.specs.declared.refusal.Refusal.TheVariants.{OutOfMemory};
 ghost use Rattle.tera_syntax_tokens.specs.declared.token.Token.{Token};
 
-use crate::bytes::{after, before, begins, position as position_of, position_of_byte};
-use crate::inside::{cut_inside, is_hyphen};
+use crate::bytes::{bytes_from, bytes_to, begins, position as position_of, position_of_byte};
+use crate::tag_tokens::{cut_inside, is_hyphen};
 use crate::raw::raw;
 use crate::refusal::{Reason, Refusal};
 use crate::token::Token;
@@ -72,7 +72,7 @@ pub struct FoundPiece<'a> {
     pub opening: Option<Opening>,
 }
 
-fn opened_by(tag: Tag, start: &[u8], text: &[u8]) -> Option<Opening>
+fn opening_by(tag: Tag, start: &[u8], text: &[u8]) -> Option<Opening>
     ensures { result ≡ spec.opened_by tag start.now text.now }
 {
     if begins(start, text) {
@@ -85,7 +85,7 @@ fn opened_by(tag: Tag, start: &[u8], text: &[u8]) -> Option<Opening>
     }
 }
 
-fn longer(a: Option<Opening>, b: Option<Opening>) -> Option<Opening>
+fn longer_opening(a: Option<Opening>, b: Option<Opening>) -> Option<Opening>
     ensures { result ≡ spec.longer a b }
 {
     match (a, b) {
@@ -101,10 +101,10 @@ fn longer(a: Option<Opening>, b: Option<Opening>) -> Option<Opening>
 pub(crate) fn opening_at(delimiters: &Delimiters, text: &[u8]) -> Option<Opening>
     ensures { result ≡ spec.opening_at (delimiters_of delimiters.now) text.now }
 {
-    let variable = opened_by(Tag::Variable, delimiters.variable_start.as_bytes(), text);
-    let block = opened_by(Tag::Block, delimiters.block_start.as_bytes(), text);
-    let comment = opened_by(Tag::Comment, delimiters.comment_start.as_bytes(), text);
-    longer(variable, longer(block, comment))
+    let variable = opening_by(Tag::Variable, delimiters.variable_start.as_bytes(), text);
+    let block = opening_by(Tag::Block, delimiters.block_start.as_bytes(), text);
+    let comment = opening_by(Tag::Comment, delimiters.comment_start.as_bytes(), text);
+    longer_opening(variable, longer_opening(block, comment))
 }
 
 /// Whether the text begins with the first byte of a start delimiter.
@@ -151,11 +151,11 @@ fn opening_ahead(delimiters: &Delimiters, text: &[u8]) -> Ahead
     let comment = delimiters.comment_start.as_bytes()[0];
     let mut i = position_of_byte(variable, block, comment, text);
     while i < text.len() {
-        let opening = opening_at(delimiters, after(text, i));
+        let opening = opening_at(delimiters, bytes_from(text, i));
         if opening.is_some() {
             return Ahead { at: i, opening };
         }
-        i = i + 1 + position_of_byte(variable, block, comment, after(text, i + 1));
+        i = i + 1 + position_of_byte(variable, block, comment, bytes_from(text, i + 1));
     }
     Ahead {
         at: i,
@@ -178,7 +178,7 @@ pub(crate) fn trims_before(text: &[u8], opening: Option<Opening>) -> bool
     ensures { result ≡ spec.trims_before text.now opening }
 {
     match opening {
-        Some(opening) => is_hyphen(after(text, opening.size)),
+        Some(opening) => is_hyphen(bytes_from(text, opening.size)),
         None => false,
     }
 }
@@ -188,7 +188,7 @@ pub(crate) fn start_size(opening: Opening, text: &[u8]) -> usize
     requires { opening.size ≤ length text.now }
     ensures { result ≡ spec.start_size opening text.now }
 {
-    if is_hyphen(after(text, opening.size)) {
+    if is_hyphen(bytes_from(text, opening.size)) {
         opening.size + 1
     } else {
         opening.size
@@ -197,7 +197,7 @@ pub(crate) fn start_size(opening: Opening, text: &[u8]) -> usize
 
 /// The first n bytes of a text, without the white space that a `-` on either side removes. Mostly there is none.
 #[inline(always)]
-pub(crate) fn trimmed<'a>(
+pub(crate) fn trimmed_words<'a>(
     text: &'a str,
     n: usize,
     at: usize,
@@ -257,7 +257,7 @@ fn words<'a>(delimiters: &Delimiters, text: &'a str, at: usize, trims: bool) -> 
     let (_, rest) = text.split_at(n);
     let behind = trims_before(rest.as_bytes(), ahead.opening);
     FoundPiece {
-        piece: trimmed(text, n, at, trims, behind),
+        piece: trimmed_words(text, n, at, trims, behind),
         next: at + n,
         trims: false,
         rest,
@@ -291,7 +291,7 @@ fn comment<'a>(end: &str, text: &'a str, at: usize) -> Result<FoundPiece<'a>, Re
     Ok(FoundPiece {
         piece: Piece::Comment,
         next: at + size,
-        trims: before(bytes, n).ends_with(b"-"),
+        trims: bytes_to(bytes, n).ends_with(b"-"),
         rest,
         opening: None,
     })
@@ -337,7 +337,7 @@ fn block<'a>(
 }
 
 /// What is left of a tag or a comment behind its start delimiter.
-fn behind<'a>(
+fn rest_of_tag<'a>(
     tokens: &mut Vec<Token<'a>>,
     delimiters: &Delimiters,
     tag: Tag,
@@ -398,7 +398,7 @@ pub fn next_piece<'a>(
         Some(opening) => {
             let size = start_size(opening, text.as_bytes());
             let (_, inner) = text.split_at(size);
-            behind(tokens, delimiters, opening.tag, inner, at + size)
+            rest_of_tag(tokens, delimiters, opening.tag, inner, at + size)
         }
     }
 }

@@ -3,7 +3,7 @@
 
 pub(crate) mod bytes;
 pub mod cut;
-pub(crate) mod inside;
+pub(crate) mod tag_tokens;
 pub mod literal;
 pub(crate) mod raw;
 pub mod refusal;

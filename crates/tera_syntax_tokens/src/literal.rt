@@ -4,7 +4,7 @@ ghost use Rattle.tera_syntax_tree.specs.Prelude.{quoted_of};
 ghost use Rattle.tera_syntax_tokens.specs.Bytes.{leading};
 ghost use Rattle.tera_syntax_tokens.specs.Literal as spec;
 
-use crate::bytes::{after, leading_len};
+use crate::bytes::{bytes_from, leading_len};
 use crate::token::is_quote;
 use std::alloc::{AllocError, Global};
 use tera_syntax_tree::Quoted;
@@ -13,14 +13,14 @@ use tera_syntax_tree::Quoted;
 pub fn integer(digits: &str) -> Option<i128>
     ensures { result ≡ spec.integer digits.now }
 {
-    match small(digits) {
+    match small_integer(digits) {
         Some(number) => Some(i128::from(number)),
-        None => large(digits),
+        None => large_integer(digits),
     }
 }
 
 /// The same where the number fits 64 bits, as most do.
-fn small(digits: &str) -> Option<u64>
+fn small_integer(digits: &str) -> Option<u64>
     ensures { IfSome result (λ n. n ≡ spec.number_from 0 digits.now) }
 {
     let mut number: u64 = 0;
@@ -32,7 +32,7 @@ fn small(digits: &str) -> Option<u64>
 }
 
 /// The same for any number.
-fn large(digits: &str) -> Option<i128>
+fn large_integer(digits: &str) -> Option<i128>
     ensures { result ≡ spec.integer digits.now }
 {
     let mut number: u128 = 0;
@@ -47,7 +47,7 @@ fn large(digits: &str) -> Option<i128>
 }
 
 /// The byte that a backslash before this one stands for, with it.
-fn escaped(b: u8) -> Option<u8>
+fn byte_of_escape(b: u8) -> Option<u8>
     ensures value { result ≡ spec.escaped b }
     ensures low { IfSome result (λ c. (c < 128) × (b < 128)) }
 {
@@ -75,7 +75,7 @@ fn escape_at(text: &[u8], i: usize) -> Option<u8>
         × (get_or text.now i 0 < 128)) }
 {
     if i < text.len() {
-        escaped(text[i])
+        byte_of_escape(text[i])
     } else {
         None
     }
@@ -89,7 +89,7 @@ fn unescape(alloc: Global, text: &str) -> Result<String, AllocError>
     let mut all = String::new(alloc);
     let mut from = 0;
     while from < bytes.len() {
-        let end = from + plain_len(after(bytes, from));
+        let end = from + plain_len(bytes_from(bytes, from));
         all.push_str(&text[from..end])?;
         if end == bytes.len() {
             return Ok(all);
@@ -118,7 +118,7 @@ fn is_quoted(text: &[u8]) -> bool
 
 /// What is written between quotes, as it stands there or without its backslashes.
 #[tactic(auto, using(crate::proofs::Literals::all_plain))]
-fn between<'s>(alloc: Global, text: &'s str) -> Result<Quoted<'s>, AllocError>
+fn text_in_quotes<'s>(alloc: Global, text: &'s str) -> Result<Quoted<'s>, AllocError>
     ensures { IfOk result (λ q. quoted_of q ≡ spec.unescaped false text.now) }
 {
     if plain_len(text.as_bytes()) == text.len() {
@@ -137,5 +137,5 @@ pub fn literal<'s>(alloc: Global, text: &'s str) -> Result<Option<Quoted<'s>>, A
         return Ok(None);
     }
     let inner = &text[1..text.len() - 1];
-    Ok(Some(between(alloc, inner)?))
+    Ok(Some(text_in_quotes(alloc, inner)?))
 }

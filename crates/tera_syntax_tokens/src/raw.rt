@@ -12,9 +12,9 @@ ghost use Rattle.tera_syntax_tokens.specs.Token as token;
 ghost use Rattle.tera_syntax_tokens.specs.declared.token.Token.{Token};
 ghost use Rattle.tera_syntax_tree.specs.Prelude.{accepted, delimiters_of};
 
-use crate::bytes::{after, begins};
-use crate::cut::{FoundPiece, Tag, next_opening, opening_at, start_size, trimmed, trims_before};
-use crate::inside::{Ending, closing};
+use crate::bytes::{bytes_from, begins};
+use crate::cut::{FoundPiece, Tag, next_opening, opening_at, start_size, trimmed_words, trims_before};
+use crate::tag_tokens::{Ending, tag_ending};
 use crate::refusal::{Reason, Refusal};
 use crate::token::{byte_at, is_blank, is_name_byte};
 use tera_errors::Span;
@@ -30,7 +30,7 @@ fn blanks_len(end: &[u8], text: &[u8]) -> usize
         || not (token.is_blank (get_or text.now result 0))) ≡ true }
 {
     for i in 0..text.len() {
-        if closing(end, after(text, i)).is_some() || !is_blank(text[i]) {
+        if tag_ending(end, bytes_from(text, i)).is_some() || !is_blank(text[i]) {
             return i;
         }
     }
@@ -56,16 +56,16 @@ fn ending(end: &[u8], text: &[u8]) -> Option<Ending>
         → IfSome result (λ e. IsCharBoundary text.now e.size) }
 {
     let n = blanks_len(end, text);
-    let name = after(text, n);
-    if closing(end, name).is_some() {
+    let name = bytes_from(text, n);
+    if tag_ending(end, name).is_some() {
         return None;
     }
     if !names_endraw(name) {
         return None;
     }
-    let more = after(name, 6);
+    let more = bytes_from(name, 6);
     let m = blanks_len(end, more);
-    match closing(end, after(more, m)) {
+    match tag_ending(end, bytes_from(more, m)) {
         Some(ending) => Some(Ending {
             size: n + 6 + m + ending.size,
             trims: ending.trims,
@@ -90,7 +90,7 @@ fn endraw(delimiters: &Delimiters, text: &[u8]) -> Option<Ending>
         return None;
     }
     let size = start_size(opening, text);
-    match ending(delimiters.block_end.as_bytes(), after(text, size)) {
+    match ending(delimiters.block_end.as_bytes(), bytes_from(text, size)) {
         Some(ending) => Some(Ending {
             size: size + ending.size,
             trims: ending.trims,
@@ -106,10 +106,10 @@ fn next_endraw(delimiters: &Delimiters, text: &[u8]) -> usize
 {
     let mut i = next_opening(delimiters, text);
     while i < text.len() {
-        if endraw(delimiters, after(text, i)).is_some() {
+        if endraw(delimiters, bytes_from(text, i)).is_some() {
             return i;
         }
-        i = i + 1 + next_opening(delimiters, after(text, i + 1));
+        i = i + 1 + next_opening(delimiters, bytes_from(text, i + 1));
     }
     i
 }
@@ -144,7 +144,7 @@ pub(crate) fn raw<'a>(
     let (_, rest) = tag.split_at(ending.size);
     let behind = trims_before(tag.as_bytes(), opening_at(delimiters, tag.as_bytes()));
     Ok(FoundPiece {
-        piece: trimmed(text, n, at, trims, behind),
+        piece: trimmed_words(text, n, at, trims, behind),
         next: at + n + ending.size,
         trims: ending.trims,
         rest,

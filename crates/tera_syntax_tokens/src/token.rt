@@ -4,7 +4,7 @@ ghost use Rattle.tera_syntax_tokens.specs.Bytes.{leading};
 ghost use Rattle.tera_syntax_tokens.specs.Token as spec;
 ghost use Rattle.tera_syntax_tokens.specs.Token.{token_of};
 
-use crate::bytes::{after, leading_len};
+use crate::bytes::{bytes_from, leading_len};
 use tera_errors::Span;
 
 /// What a token is: a word, a number, a text or a sign. A reserved word has a kind of its own.
@@ -157,7 +157,7 @@ fn quoted_len(quote: u8, text: &[u8]) -> Option<usize>
     None
 }
 
-fn pair(b: u8, c: u8) -> Option<Kind>
+fn sign_of_pair(b: u8, c: u8) -> Option<Kind>
     ensures { result ≡ spec.pair b c }
 {
     match (b, c) {
@@ -174,7 +174,7 @@ fn pair(b: u8, c: u8) -> Option<Kind>
     }
 }
 
-fn single(b: u8) -> Option<Kind>
+fn sign_of_byte(b: u8) -> Option<Kind>
     ensures { result ≡ spec.single b }
 {
     match b {
@@ -213,10 +213,10 @@ fn sign(b: u8, c: u8, d: u8) -> Option<Measure>
             size: 3,
         });
     }
-    if let Some(kind) = pair(b, c) {
+    if let Some(kind) = sign_of_pair(b, c) {
         return Some(Measure { kind, size: 2 });
     }
-    match single(b) {
+    match sign_of_byte(b) {
         Some(kind) => Some(Measure { kind, size: 1 }),
         None => None,
     }
@@ -233,7 +233,7 @@ pub(crate) fn byte_at(text: &[u8], i: usize) -> u8
 
 /// What the text begins with, by its longest token.
 #[tactic(auto, unfolding(crate::specs::Token::measured))]
-fn measured(text: &[u8]) -> Option<Measure>
+fn first_measure(text: &[u8]) -> Option<Measure>
     ensures { result ≡ spec.measured text.now }
 {
     match text {
@@ -288,7 +288,7 @@ fn word_kind(word: &[u8]) -> Kind
 }
 
 /// A name that is a word with a meaning is of that kind.
-fn named(kind: Kind, word: &str) -> Kind
+fn word_kind_of(kind: Kind, word: &str) -> Kind
     ensures { result ≡ spec.named kind word.now }
 {
     match kind {
@@ -303,14 +303,14 @@ pub(crate) fn next_token<'a>(text: &'a str, i: usize, at: usize) -> Option<Token
     requires room { at + length text.now < 2 ^ 64 }
     ensures { option_map token_of result ≡ spec.next_token (at + i) (drop i text.now) }
 {
-    let measure = match measured(after(text.as_bytes(), i)) {
+    let measure = match first_measure(bytes_from(text.as_bytes(), i)) {
         Some(measure) => measure,
         None => return None,
     };
     let end = i + measure.size;
     let word = &text[i..end];
     Some(Token {
-        kind: named(measure.kind, word),
+        kind: word_kind_of(measure.kind, word),
         text: word,
         span: Span {
             start: at + i,

@@ -72,7 +72,7 @@ impl<'t, 's> Tokens<'t, 's> {
         if let Some(token) = self.ahead.first() {
             self.last = token.span.end;
         }
-        self.ahead = behind_first(self.ahead);
+        self.ahead = all_but_first(self.ahead);
     }
 
     /// From a position to the end of what was taken.
@@ -87,7 +87,7 @@ impl<'t, 's> Tokens<'t, 's> {
 
     /// How many tokens are ahead.
     #[tactic(auto, unfolding(crate::specs::Input::left))]
-    pub fn left(&self) -> usize
+    pub fn count_left(&self) -> usize
         ensures { result ≡ spec.left (input self.now) }
     {
         self.ahead.len()
@@ -157,7 +157,7 @@ pub fn start_at(tokens: &[Token<'_>], at: usize) -> usize
 }
 
 /// All but the first.
-fn behind_first<T>(items: &[T]) -> &[T]
+fn all_but_first<T>(items: &[T]) -> &[T]
     ensures { result.now ≡ drop 1 items.now }
 {
     match items.split_first() {

@@ -6,10 +6,10 @@ use Rattle.tera_syntax_tree.specs.declared.expression.Heading.{Heading}
 use Rattle.tera_syntax_tree.specs.declared.expression.Sliced.{Sliced}
 use Rattle.tera_syntax_tree.specs.declared.expression.Collected.{Collected}
 use Rattle.tera_syntax_tree.specs.declared.expression.Applied.{Applied, Applied', out-Applied}
-use Rattle.tera_syntax_tree.specs.declared.expression.Called.{Called, Called', out-Called}
+use Rattle.tera_syntax_tree.specs.declared.expression.FunctionCall.{FunctionCall, FunctionCall', out-Called}
 use Rattle.tera_syntax_tree.specs.declared.expression.ComponentTag.{ComponentTag, ComponentTag', out-ComponentTag}
 use Rattle.tera_syntax_tree.specs.declared.expression.Item as item
-use Rattle.tera_syntax_tree.specs.declared.expression.Entry as entry
+use Rattle.tera_syntax_tree.specs.declared.expression.EntryExpression as entry
 use Rattle.tera_syntax_tree.specs.declared.expression.Argument as argument
 use Rattle.tera_syntax_tree.specs.declared.expression.Expression.{Expression, Row_of-Item, end_of-Item, more_of-Item, items-the_row-Item, items_hidden-the_row-Item-0, Row_of-Entry, end_of-Entry, more_of-Entry, items-the_row-Entry, items_hidden-the_row-Entry-1, Row_of-Argument, end_of-Argument, more_of-Argument, items-the_row-Argument, items_hidden-the_row-Argument-2, items_shown-the_row-Argument-2, items_shown-the_row-Entry-1}
 use Rattle.tera_syntax_tree.specs.declared.expression.Expression.TheVariants as expression
@@ -71,7 +71,7 @@ abbrev arguments_in : Expression → (n : Count) × Row_of-Argument n
 arguments_in (expression.Super' _ row _) = (_, row)
 arguments_in (expression.Filter' _ (Applied' _ _ _ row) _) = (_, row)
 arguments_in (expression.Test' _ (Applied' _ _ _ row) _) = (_, row)
-arguments_in (expression.Call' _ (Called' _ _ row) _) = (_, row)
+arguments_in (expression.Call' _ (FunctionCall' _ _ row) _) = (_, row)
 arguments_in _ = (_, end_of-Argument)
 
 abbrev body_in : declared.Node → (n : Count) × Row_of-Node n
@@ -119,10 +119,10 @@ unfolding out-Applied denote.Hole.Carrier.out
 view_test a span = elim a.value as (λ x. expr_of (expression.Test (record { ptr = a.ptr; alloc = a.alloc; value = x }) span) ≡ applied_of Test x span)
     [ Applied' e t m all ↦ ap (λ y. Test (expr_of e) t.now y span) (arguments_are _ all _ (items_shown-the_row-Argument-2 m all)) ]
 
-pub view_call : (c : Box Called Global) (span : Span) → expr_of (expression.Call c span) ≡ called_of c.value span
+pub view_call : (c : Box FunctionCall Global) (span : Span) → expr_of (expression.Call c span) ≡ called_of c.value span
 unfolding out-Called denote.Hole.Carrier.out
 view_call c span = elim c.value as (λ x. expr_of (expression.Call (record { ptr = c.ptr; alloc = c.alloc; value = x }) span) ≡ called_of x span)
-    [ Called' t m all ↦ ap (λ y. Call t.now y span) (arguments_are _ all _ (items_shown-the_row-Argument-2 m all)) ]
+    [ FunctionCall' t m all ↦ ap (λ y. Call t.now y span) (arguments_are _ all _ (items_shown-the_row-Argument-2 m all)) ]
 
 pub view_component : (t : Box ComponentTag Global) (span : Span) → expr_of (expression.Component t span) ≡ tag_of t.value span
 unfolding out-ComponentTag denote.Hole.Carrier.out

@@ -9,7 +9,7 @@ use Rattle.tera_syntax_tree.specs.declared.expression.Sliced.{Sliced}
 use Rattle.tera_syntax_tree.specs.declared.expression.Heading.{Heading}
 use Rattle.tera_syntax_tree.specs.declared.expression.Collected.{Collected}
 use Rattle.tera_syntax_tree.specs.declared.expression.Applied.{Applied, Applied', out-Applied}
-use Rattle.tera_syntax_tree.specs.declared.expression.Called.{Called, Called', out-Called}
+use Rattle.tera_syntax_tree.specs.declared.expression.FunctionCall.{FunctionCall, FunctionCall', out-Called}
 use Rattle.tera_syntax_tree.specs.declared.expression.ComponentTag.{ComponentTag, ComponentTag', out-ComponentTag}
 use Rattle.tera_syntax_tree.specs.declared.expression.LiteralKey.{LiteralKey}
 use Rattle.tera_syntax_tree.specs.declared.expression.LiteralKey.TheVariants as key
@@ -18,7 +18,7 @@ use Rattle.tera_syntax_tree.specs.declared.expression.OwnedKey.TheVariants as ow
 use Rattle.tera_syntax_tree.specs.declared.quoted.Quoted.{Quoted}
 use Rattle.tera_syntax_tree.specs.declared.quoted.Quoted.TheVariants as quoted
 use Rattle.tera_syntax_tree.specs.declared.expression.Item as item
-use Rattle.tera_syntax_tree.specs.declared.expression.Entry as entry
+use Rattle.tera_syntax_tree.specs.declared.expression.EntryExpression as entry
 use Rattle.tera_syntax_tree.specs.declared.expression.Argument as argument
 use Rattle.tera_syntax_tree.specs.declared.component.Literal.{Row_of-Literal, end_of-Literal, more_of-Literal, Row_of-LiteralEntry, end_of-LiteralEntry, more_of-LiteralEntry}
 use Rattle.tera_syntax_tree.specs.declared.component.Literal as declared_literal
@@ -88,7 +88,7 @@ abbrev mutual
       Filter (expr_of e) t.now (row_arguments all) span
   expr_of (expression.Test' p (Applied' e t m all) span) =
       Test (expr_of e) t.now (row_arguments all) span
-  expr_of (expression.Call' p (Called' t m all) span) = Call t.now (row_arguments all) span
+  expr_of (expression.Call' p (FunctionCall' t m all) span) = Call t.now (row_arguments all) span
   expr_of (expression.Component' p (ComponentTag' t m all) span) =
       Component t.now (row_entries all) span
 
@@ -143,7 +143,7 @@ applied_of form a span = let parts = out-Applied a in
     form (expr_of parts.value) parts.name.now (arguments_of parts.arguments.items) span
 
 -- a call of these parts
-abbrev pub called_of : Called → Span → Expr
+abbrev pub called_of : FunctionCall → Span → Expr
 called_of c span =
     let parts = out-Called c in Call parts.name.now (arguments_of parts.arguments.items) span
 

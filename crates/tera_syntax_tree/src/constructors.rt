@@ -6,7 +6,7 @@ ghost use Rattle.tera_syntax_tree.specs.View.{applied_of, called_of, tag_of, exp
 
 use crate::component::{Literal, LiteralEntry};
 use crate::expression::{
-    Applied, Argument, BinaryOperator, Called, Choice, Collected, ComponentTag, Entry, Expression,
+    Applied, Argument, BinaryOperator, FunctionCall, Choice, Collected, ComponentTag, EntryExpression, Expression,
     Heading, Indexed, Item, Operands, Sliced,
 };
 use crate::node::{Block, Captured, Node, SectionFilter};
@@ -115,7 +115,7 @@ impl<'s> Expression<'s> {
     }
 
     /// `{key: value, ..}`
-    pub fn map(entries: Vec<Entry<'s>>, span: Span) -> Self
+    pub fn map(entries: Vec<EntryExpression<'s>>, span: Span) -> Self
         ensures { expr_of result ≡ Map (entries_of entries.entry.items) span }
     {
         Expression::Map { entries, span }
@@ -129,7 +129,7 @@ impl<'s> Expression<'s> {
     }
 
     /// `super(name = value, ..)`
-    pub fn above(arguments: Vec<Argument<'s>>, span: Span) -> Self
+    pub fn super_call(arguments: Vec<Argument<'s>>, span: Span) -> Self
         ensures { expr_of result ≡ Super (arguments_of arguments.entry.items) span }
     {
         Expression::Super { arguments, span }
@@ -150,7 +150,7 @@ impl<'s> Expression<'s> {
     }
 
     /// `name(name = value, ..)`
-    pub fn call(called: Box<Called<'s>>, span: Span) -> Self
+    pub fn call(called: Box<FunctionCall<'s>>, span: Span) -> Self
         ensures { expr_of result ≡ called_of called.entry.value span }
     {
         Expression::Call { called, span }
@@ -242,7 +242,7 @@ impl<'s> Node<'s> {
 
     /// `{% for heading %}body{% else %}other{% endfor %}`
     #[tactic(auto, using(crate::proofs::Views::view_for))]
-    pub fn each(heading: Box<Heading<'s>>, body: Vec<Node<'s>>, other: Vec<Node<'s>>) -> Self
+    pub fn for_loop(heading: Box<Heading<'s>>, body: Vec<Node<'s>>, other: Vec<Node<'s>>) -> Self
         ensures { node_of result ≡ for_of heading.entry.value body.entry.items other.entry.items }
     {
         Node::For {

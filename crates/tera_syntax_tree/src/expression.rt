@@ -113,7 +113,7 @@ pub enum Expression<'s> {
         span: Span,
     },
     Map {
-        entries: Vec<Entry<'s>>,
+        entries: Vec<EntryExpression<'s>>,
         span: Span,
     },
     /// `[value for name in target if condition]`
@@ -138,7 +138,7 @@ pub enum Expression<'s> {
     },
     /// `name(name = value, ..)`: a function, by any other name than `super`.
     Call {
-        called: Box<Called<'s>>,
+        called: Box<FunctionCall<'s>>,
         span: Span,
     },
     /// `<name key={value} {...map}/>`: a component. Its attributes are entries at text keys, in the order of the text.
@@ -190,7 +190,7 @@ impl<'s> Drop for Expression<'s> {
             Expression::Super { arguments, span: _ } => drop_arguments(arguments),
             Expression::Filter { applied, span: _ } => drop_applied(applied),
             Expression::Test { applied, span: _ } => drop_applied(applied),
-            Expression::Call { called, span: _ } => drop_called(called),
+            Expression::Call { called, span: _ } => drop_call(called),
             Expression::Component { tag, span: _ } => drop_tag(tag),
         }
     }
@@ -236,7 +236,7 @@ fn drop_items(items: Vec<Item<'_>>) {
 
 #[inline(never)]
 #[cycle(dropping)]
-fn drop_entries(entries: Vec<Entry<'_>>) {
+fn drop_entries(entries: Vec<EntryExpression<'_>>) {
     drop(entries);
 }
 
@@ -260,7 +260,7 @@ fn drop_applied(applied: Box<Applied<'_>>) {
 
 #[inline(never)]
 #[cycle(dropping)]
-fn drop_called(called: Box<Called<'_>>) {
+fn drop_call(called: Box<FunctionCall<'_>>) {
     drop(called);
 }
 
@@ -315,7 +315,7 @@ pub struct Item<'s> {
 /// An entry of a map; without a key, a map whose entries are spread into it.
 #[derive(Drop)]
 #[cycle(expression)]
-pub struct Entry<'s> {
+pub struct EntryExpression<'s> {
     pub key: Option<LiteralKey<'s>>,
     pub value: Expression<'s>,
 }
@@ -340,7 +340,7 @@ pub struct Applied<'s> {
 /// A function that is called, by its name.
 #[derive(Drop)]
 #[cycle(expression)]
-pub struct Called<'s> {
+pub struct FunctionCall<'s> {
     pub name: &'s str,
     pub arguments: Vec<Argument<'s>>,
 }
@@ -350,7 +350,7 @@ pub struct Called<'s> {
 #[cycle(expression)]
 pub struct ComponentTag<'s> {
     pub name: &'s str,
-    pub attributes: Vec<Entry<'s>>,
+    pub attributes: Vec<EntryExpression<'s>>,
 }
 
 /// What a comprehension keeps of what it goes over, where there is a condition only as that says.

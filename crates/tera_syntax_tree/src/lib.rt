@@ -11,7 +11,7 @@ pub mod quoted;
 pub use component::{ArgumentType, Literal, LiteralEntry, Parameter, Signature};
 pub use delimiters::Delimiters;
 pub use expression::{
-    Applied, Argument, BinaryOperator, Bounds, Called, Choice, Collected, ComponentTag, Entry,
+    Applied, Argument, BinaryOperator, Bounds, FunctionCall, Choice, Collected, ComponentTag, EntryExpression,
     Expression, Heading, Indexed, Item, LiteralKey, Operands, OwnedKey, Sliced,
 };
 pub use node::{Block, Captured, DefinedComponent, Node, ParserOutput, SectionFilter};

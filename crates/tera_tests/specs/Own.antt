@@ -11,11 +11,11 @@ use Rattle.tera_built_ins.specs.Filters.{filter_in}
 use Rattle.tera_built_ins.specs.Replace.{replaced}
 use Rattle.tera_operators.specs.Operand.{then}
 use Rattle.tera_state.specs.View.{View, escaping_in, escaped_if_needed}
-use Rattle.tera_tests.specs.declared.own.Refusal.{Refusal}
-use Rattle.tera_tests.specs.declared.own.Refusal.TheVariants as refusal
+use Rattle.tera_tests.specs.declared.own.RefusalKind.{RefusalKind}
+use Rattle.tera_tests.specs.declared.own.RefusalKind.TheVariants as refusal
 
 -- with what an object refuses; where it says that memory is lacking, any fault may stand here
-abbrev pub fault_of : Refusal → Fault
+abbrev pub fault_of : RefusalKind → Fault
 fault_of refusal.InvalidArgument = invalid_argument
 fault_of refusal.MissingArgument = missing_argument
 fault_of refusal.TemplateNotFound = template_not_found

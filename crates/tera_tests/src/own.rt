@@ -19,7 +19,7 @@ pub struct Says {
 }
 
 /// A filter or a function that answers the word.
-pub fn saying(alloc: Global, word: &'static str, is_safe: bool) -> Says {
+pub fn word_object(alloc: Global, word: &'static str, is_safe: bool) -> Says {
     Says {
         alloc,
         word,
@@ -113,7 +113,7 @@ pub struct Shows {
     pub alloc: Global,
 }
 
-fn seen(alloc: Global, state: &State<'_>) -> TeraResult<Value>
+fn value_of_x(alloc: Global, state: &State<'_>) -> TeraResult<Value>
     ensures { Gives (λ v. v) result
         (Ok (shown ((view_of (λ e. escaped e.now) state.now).look (codes "x")))) }
 {
@@ -130,7 +130,7 @@ impl Filter for Shows {
     ghost safe = { λ _. false };
 
     fn call(&self, _value: &Value, _kwargs: Kwargs, state: &State<'_>) -> TeraResult<Value> {
-        seen(self.alloc, state)
+        value_of_x(self.alloc, state)
     }
 
     fn is_safe(&self) -> bool {
@@ -155,7 +155,7 @@ impl Function for Shows {
     ghost safe = { λ _. false };
 
     fn call(&self, _kwargs: Kwargs, state: &State<'_>) -> TeraResult<Value> {
-        seen(self.alloc, state)
+        value_of_x(self.alloc, state)
     }
 
     fn is_safe(&self) -> bool {
@@ -201,7 +201,7 @@ impl Filter for UsesState {
 
 /// With what an object refuses.
 #[derive(Drop)]
-pub enum Refusal {
+pub enum RefusalKind {
     InvalidArgument,
     MissingArgument,
     Message,
@@ -213,7 +213,7 @@ pub enum Refusal {
 #[derive(Drop)]
 pub struct Refuses {
     pub alloc: Global,
-    pub with: Refusal,
+    pub with: RefusalKind,
 }
 
 impl Refuses {
@@ -221,11 +221,11 @@ impl Refuses {
         ensures { Tells result (fault_of self.now.with) }
     {
         match &self.with {
-            Refusal::InvalidArgument => Error::invalid_argument(),
-            Refusal::MissingArgument => Error::missing_argument(),
-            Refusal::Message => Error::message(self.alloc, "no"),
-            Refusal::TemplateNotFound => Error::template_not_found(),
-            Refusal::OutOfMemory => Error::out_of_memory(),
+            RefusalKind::InvalidArgument => Error::invalid_argument(),
+            RefusalKind::MissingArgument => Error::missing_argument(),
+            RefusalKind::Message => Error::message(self.alloc, "no"),
+            RefusalKind::TemplateNotFound => Error::template_not_found(),
+            RefusalKind::OutOfMemory => Error::out_of_memory(),
         }
     }
 }
@@ -300,14 +300,14 @@ impl EscapeFn for Asks {
     ghost escaped = { λ o. asked };
 
     fn escape(&self, input: &str, out: &mut String) -> TeraResult<()> {
-        let text = replaced(self.alloc, input, "a", "?")?;
+        let text = replace(self.alloc, input, "a", "?")?;
         out.push_str(text.as_str())?;
         Ok(())
     }
 }
 
 /// The text with another one at all positions of a pattern.
-fn replaced(alloc: Global, text: &str, from: &str, to: &str) -> TeraResult<String>
+fn replace(alloc: Global, text: &str, from: &str, to: &str) -> TeraResult<String>
     ensures { Gives string_bytes result (Ok (replaced plain.code from.now to.now text.now)) }
 {
     Ok(text.replace(alloc, from, to)?)

@@ -4,7 +4,7 @@ ghost use Rattle.tera_errors.specs.Prelude.{Fault, Gives, MemorySuffices, invali
 ghost use Rattle.tera_values_data.specs.Prelude.{Val, bool, int, text, array, map, vals, entries, IsScalar};
 ghost use Rattle.tera_values.specs.Arguments.{as_bool, as_int, as_natural, as_text, as_array, as_map};
 
-use crate::refusals::unfit_for;
+use crate::refusals::not_of_type;
 use std::alloc::Global;
 use tera_errors::{Error, TeraResult};
 use tera_values_data::{Map, Shape, Value, copy_items};
@@ -49,7 +49,7 @@ impl ArgFromValue for bool {
     fn from_value(alloc: Global, value: &Value) -> TeraResult<bool> {
         match value.shape() {
             Shape::Bool(flag) => Ok(flag),
-            _ => Err(unfit_for(alloc, "a bool")),
+            _ => Err(not_of_type(alloc, "a bool")),
         }
     }
 }
@@ -64,7 +64,7 @@ impl ArgFromValue for i128 {
     fn from_value(alloc: Global, value: &Value) -> TeraResult<i128> {
         match value.shape() {
             Shape::Int(number) => Ok(number),
-            _ => Err(unfit_for(alloc, "an integer")),
+            _ => Err(not_of_type(alloc, "an integer")),
         }
     }
 }
@@ -77,7 +77,7 @@ impl ArgFromValue for u32 {
     ghost is_ready = { λ _. Unit {0} };
 
     fn from_value(alloc: Global, value: &Value) -> TeraResult<u32> {
-        let number = natural(alloc, value, u32::MAX as u64)?;
+        let number = natural_of(alloc, value, u32::MAX as u64)?;
         Ok(number as u32)
     }
 }
@@ -90,7 +90,7 @@ impl ArgFromValue for usize {
     ghost is_ready = { λ _. Unit {0} };
 
     fn from_value(alloc: Global, value: &Value) -> TeraResult<usize> {
-        let number = natural(alloc, value, usize::MAX as u64)?;
+        let number = natural_of(alloc, value, usize::MAX as u64)?;
         Ok(number as usize)
     }
 }
@@ -103,7 +103,7 @@ impl ArgFromValue for String {
     fn from_value(alloc: Global, value: &Value) -> TeraResult<String> {
         match value.shape() {
             Shape::Text(content, _) => Ok(String::from_str(alloc, content)?),
-            _ => Err(unfit_for(alloc, "a string")),
+            _ => Err(not_of_type(alloc, "a string")),
         }
     }
 }
@@ -116,7 +116,7 @@ impl ArgFromValue for Vec<Value> {
     fn from_value(alloc: Global, value: &Value) -> TeraResult<Vec<Value>> {
         match value.shape() {
             Shape::Array(items) => copy_items(alloc, items),
-            _ => Err(unfit_for(alloc, "an array")),
+            _ => Err(not_of_type(alloc, "an array")),
         }
     }
 }
@@ -129,14 +129,14 @@ impl ArgFromValue for Map {
     fn from_value(alloc: Global, value: &Value) -> TeraResult<Map> {
         match value.shape() {
             Shape::Map(all) => all.try_clone(),
-            _ => Err(unfit_for(alloc, "a map")),
+            _ => Err(not_of_type(alloc, "a map")),
         }
     }
 }
 
 /// The integer from 0 to the greatest that is taken; `InvalidArgument` for any other value.
 #[inline(always)]
-fn natural(alloc: Global, value: &Value, greatest: u64) -> TeraResult<u64>
+fn natural_of(alloc: Global, value: &Value, greatest: u64) -> TeraResult<u64>
     ensures read { Gives (λ n. int (pos n)) result (as_natural (greatest + 1) value.now) }
     ensures high { IfOk result (λ n. n ≤ greatest) }
     ensures ready { MemorySuffices result }
@@ -153,7 +153,7 @@ fn unfit_for_natural(alloc: Global, greatest: u64) -> Error
     ensures { result ≡ Some invalid_argument }
 {
     match format!(in alloc; "an integer from 0 to {greatest}") {
-        Ok(wanted) => unfit_for(alloc, wanted.as_str()),
+        Ok(wanted) => not_of_type(alloc, wanted.as_str()),
         Err(_) => Error::invalid_argument(),
     }
 }

@@ -5,8 +5,8 @@ ghost use Rattle.tera_values.specs.Named.{at_name, name_cmp, position, IsAscendi
 ghost use Rattle.tera_values.specs.Arguments.{read, read_needed};
 
 use crate::argument::ArgFromValue;
-use crate::name::{Name, Sought};
-use crate::refusals::of_argument;
+use crate::name::{Name, NameRef};
+use crate::refusals::argument_error;
 use std::alloc::{AllocError, Global};
 use std::cmp::Ordering;
 use std::marker::Model;
@@ -53,7 +53,7 @@ impl<'a> Arguments<'a> {
     }
 
     /// No arguments.
-    pub fn none(alloc: Global) -> Arguments<'static>
+    pub fn of_none(alloc: Global) -> Arguments<'static>
         ensures { result ≡ [] }
     {
         Arguments {
@@ -63,7 +63,7 @@ impl<'a> Arguments<'a> {
     }
 
     /// The only argument of a call.
-    pub fn one(alloc: Global, argument: &'a (Name, Value)) -> Arguments<'a>
+    pub fn of_one(alloc: Global, argument: &'a (Name, Value)) -> Arguments<'a>
         ensures { result ≡ argument.now ∷ [] }
     {
         Arguments {
@@ -79,16 +79,16 @@ impl<'a> Arguments<'a> {
         if self.entries.len() <= FEW {
             value_among(self.entries, name)
         } else {
-            value_searched(self.entries, name)
+            search_value(self.entries, name)
         }
     }
 
     /// The same by a name whose hash is known. Takes no memory.
-    pub fn look(&self, name: &Sought<'_>) -> Option<&'a Value>
+    pub fn look(&self, name: &NameRef<'_>) -> Option<&'a Value>
         ensures { option_copied result ≡ at_name name.now self.now }
     {
         if self.entries.len() <= FEW {
-            among(self.entries, name)
+            find_among(self.entries, name)
         } else {
             self.value(name.as_str())
         }
@@ -105,7 +105,7 @@ impl<'a> Arguments<'a> {
         match self.value(name) {
             Some(value) => match T::from_value(self.alloc, value) {
                 Ok(argument) => Ok(Some(argument)),
-                Err(error) => Err(of_argument(self.alloc, error, name, value)),
+                Err(error) => Err(argument_error(self.alloc, error, name, value)),
             },
             None => Ok(None),
         }
@@ -122,19 +122,19 @@ impl<'a> Arguments<'a> {
         match self.value(name) {
             Some(value) => match T::from_value(self.alloc, value) {
                 Ok(argument) => Ok(argument),
-                Err(error) => Err(of_argument(self.alloc, error, name, value)),
+                Err(error) => Err(argument_error(self.alloc, error, name, value)),
             },
-            None => Err(self.missing(name)),
+            None => Err(self.missing_error(name)),
         }
     }
 
     /// The fault of a call that needs the argument, which is absent. It tells of a name that is given and near to it.
     #[inline(never)]
-    pub fn missing(&self, name: &str) -> Error
+    pub fn missing_error(&self, name: &str) -> Error
         ensures { result ≡ Some missing_argument }
     {
         match self.missing_in_words(name) {
-            Ok(words) => Error::missing_argument().telling(self.alloc, words.as_str()),
+            Ok(words) => Error::missing_argument().with_message(self.alloc, words.as_str()),
             Err(_) => Error::missing_argument(),
         }
     }
@@ -159,11 +159,11 @@ pub(crate) fn position(entries: &[(Name, Value)], name: &str) -> Result<usize, u
     requires { IsAscending entries.now }
     ensures { result ≡ position name.now entries.now }
 {
-    entries.binary_search_by(|entry| compared(entry, name))
+    entries.binary_search_by(|entry| compare_name(entry, name))
 }
 
 // The value at the name, looked for from the first entry on.
-fn among<'a>(entries: &'a [(Name, Value)], name: &Sought<'_>) -> Option<&'a Value>
+fn find_among<'a>(entries: &'a [(Name, Value)], name: &NameRef<'_>) -> Option<&'a Value>
     ensures { option_copied result ≡ at_name name.now entries.now }
 {
     for entry in entries {
@@ -187,7 +187,7 @@ fn value_among<'a>(entries: &'a [(Name, Value)], name: &str) -> Option<&'a Value
 }
 
 // The same of many.
-fn value_searched<'a>(entries: &'a [(Name, Value)], name: &str) -> Option<&'a Value>
+fn search_value<'a>(entries: &'a [(Name, Value)], name: &str) -> Option<&'a Value>
     requires { IsAscending entries.now }
     ensures { option_copied result ≡ at_name name.now entries.now }
 {
@@ -200,7 +200,7 @@ fn value_searched<'a>(entries: &'a [(Name, Value)], name: &str) -> Option<&'a Va
     }
 }
 
-fn compared(entry: &(Name, Value), name: &str) -> Ordering
+fn compare_name(entry: &(Name, Value), name: &str) -> Ordering
     ensures { result ≡ name_cmp entry.now.0 name.now }
 {
     entry.0.as_str().cmp(name)

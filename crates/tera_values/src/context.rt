@@ -4,7 +4,7 @@ ghost use Rattle.tera_errors.specs.Prelude.{Gives, Lacks};
 ghost use Rattle.tera_values_data.specs.Prelude.{entries, map as map_of};
 ghost use Rattle.tera_values.specs.Named.{at_name, put, put_all, text_keys, with_names, without_names, IsAscending};
 
-use crate::name::{Name, Sought};
+use crate::name::{Name, NameRef};
 use indexmap::IndexMap;
 use std::alloc::Global;
 use std::collections::BTreeMap;
@@ -61,7 +61,7 @@ impl Context {
         ensures err { OnErr result (self.new ≡ self.old) }
         ensures lacks { IfErr result Lacks }
     {
-        self.put(Name::new(self.alloc(), name)?, value.shared(self.alloc())?)
+        self.put(Name::new(self.alloc(), name)?, value.into_shared(self.alloc())?)
     }
 
     // The same by a name and a value that are shared already: both are kept as they lie.
@@ -79,11 +79,11 @@ impl Context {
     pub fn get(&self, name: &str) -> Option<&Value>
         ensures { option_copied result ≡ at_name name.now self.now }
     {
-        self.look(&Sought::new(name))
+        self.look(&NameRef::new(name))
     }
 
     /// The same by a name whose hash is known: its text is not hashed anew. Takes no memory.
-    pub fn look(&self, name: &Sought<'_>) -> Option<&Value>
+    pub fn look(&self, name: &NameRef<'_>) -> Option<&Value>
         ensures { option_copied result ≡ at_name name.now self.now }
     {
         self.names.get(name)
@@ -137,7 +137,7 @@ impl Context {
     fn leave_out(&mut self, name: &str)
         ensures { self.new ≡ without_names (name.now ∷ []) self.old }
     {
-        let old = self.names.swap_remove(&Sought::new(name));
+        let old = self.names.swap_remove(&NameRef::new(name));
         drop(old);
     }
 
@@ -146,7 +146,7 @@ impl Context {
         ensures { Gives (λ all. all) result (Ok (text_keys self.now)) }
     {
         let mut all = Map::new(self.alloc);
-        for (name, value) in self.ordered()? {
+        for (name, value) in self.to_sorted_map()? {
             all.insert(Key::Text(name), value)?;
         }
         Ok(all)
@@ -165,13 +165,13 @@ impl Context {
             (Ok (map (λ e. e.0) self.now)) }
         ensures ascending { IsAscending self.now }
     {
-        let names = self.ordered()?.into_keys().collect(self.alloc)?;
+        let names = self.to_sorted_map()?.into_keys().collect(self.alloc)?;
         Ok(names)
     }
 
     // The values at copies of their names, in byte order of these.
     #[tactic(auto, using(crate::proofs::Contexts::named_ascend))]
-    fn ordered(&self) -> TeraResult<BTreeMap<String, Value>>
+    fn to_sorted_map(&self) -> TeraResult<BTreeMap<String, Value>>
         ensures all { Gives (λ m. map (λ e. (string_bytes e.0, e.1)) m.entries) result
             (Ok self.now) }
         ensures ascending { IsAscending self.now }

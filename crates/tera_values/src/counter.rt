@@ -16,18 +16,18 @@ pub enum Counter {
 impl Counter {
     /// What the name counts, if anything. Most names are told from such ones by how they begin.
     #[inline(always)]
-    pub fn named(name: &str) -> Option<Counter>
+    pub fn by_name(name: &str) -> Option<Counter>
         ensures { result ≡ counter_of name.now }
     {
         match name.as_bytes() {
-            [b'_', b'_', ..] => counted(name),
+            [b'_', b'_', ..] => counter_of_name(name),
             _ => None,
         }
     }
 }
 
 // The same by comparing the name with each of a loop's names.
-fn counted(name: &str) -> Option<Counter>
+fn counter_of_name(name: &str) -> Option<Counter>
     ensures { result ≡ counter_of name.now }
 {
     if name == "__tera_loop_index" {

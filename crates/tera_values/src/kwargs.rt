@@ -7,7 +7,7 @@ ghost use Rattle.tera_values.specs.Arguments.{read, read_needed};
 use crate::argument::ArgFromValue;
 use crate::arguments::{Arguments, position};
 use crate::context::Context;
-use crate::name::{Name, Sought};
+use crate::name::{Name, NameRef};
 use std::alloc::Global;
 use std::collections::BTreeMap;
 use std::marker::Model;
@@ -75,7 +75,7 @@ impl Kwargs {
         ensures err { OnErr result (self.new ≡ self.old) }
         ensures lacks { IfErr result Lacks }
     {
-        self.put(Name::new(self.alloc(), name)?, value.shared(self.alloc())?)
+        self.put(Name::new(self.alloc(), name)?, value.into_shared(self.alloc())?)
     }
 
     /// The same, and both are kept as they lie: neither is copied.
@@ -92,7 +92,7 @@ impl Kwargs {
     }
 
     /// The same arguments, lent.
-    pub fn lent(&self) -> Arguments<'_>
+    pub fn as_arguments(&self) -> Arguments<'_>
         ensures { result ≡ self.now }
     {
         Arguments::of_entries(self.alloc(), self.entries.as_slice())
@@ -102,14 +102,14 @@ impl Kwargs {
     pub fn value(&self, name: &str) -> Option<&Value>
         ensures { option_copied result ≡ at_name name.now self.now }
     {
-        self.lent().value(name)
+        self.as_arguments().value(name)
     }
 
     /// The same by a name whose hash is known. Takes no memory.
-    pub fn look(&self, name: &Sought<'_>) -> Option<&Value>
+    pub fn look(&self, name: &NameRef<'_>) -> Option<&Value>
         ensures { option_copied result ≡ at_name name.now self.now }
     {
-        self.lent().look(name)
+        self.as_arguments().look(name)
     }
 
     /// Puts all into the names of a context.
@@ -140,7 +140,7 @@ impl Kwargs {
             MemorySuffices result }
         ensures ready { IfSome (at_name name.now self.now) T.is_ready → MemorySuffices result }
     {
-        self.lent().get(name)
+        self.as_arguments().get(name)
     }
 
     /// The argument; `MissingArgument` where it is absent, `InvalidArgument` where it is of a wrong type.
@@ -151,13 +151,13 @@ impl Kwargs {
             MemorySuffices result }
         ensures ready { IfSome (at_name name.now self.now) T.is_ready → MemorySuffices result }
     {
-        self.lent().must_get(name)
+        self.as_arguments().must_get(name)
     }
 
     /// The fault of a call that needs the argument, which is absent. It tells of a name that is given and near to it.
-    pub fn missing(&self, name: &str) -> Error
+    pub fn missing_error(&self, name: &str) -> Error
         ensures { result ≡ Some missing_argument }
     {
-        self.lent().missing(name)
+        self.as_arguments().missing_error(name)
     }
 }

@@ -17,7 +17,7 @@ pub use arguments::Arguments;
 pub use context::Context;
 pub use counter::Counter;
 pub use kwargs::Kwargs;
-pub use name::{Name, Sought};
+pub use name::{Name, NameRef};
 pub use string_input::{StringInput, WritesValues};
 pub use tera_errors::{Error, ErrorKind, ReportError, Span, TeraResult};
 pub use tera_values_data::{Key, Map, Shape, Value, ValueKind, escape_html, escape_xml};

@@ -40,11 +40,11 @@ impl Name {
     pub fn new(alloc: Global, text: &str) -> TeraResult<Name>
         ensures { Gives (λ n. n) result (Ok text.now) }
     {
-        Name::from_sought(alloc, &Sought::new(text))
+        Name::from_name_ref(alloc, &NameRef::new(text))
     }
 
     /// A name of its own with this text.
-    pub fn from_sought(alloc: Global, sought: &Sought<'_>) -> TeraResult<Name>
+    pub fn from_name_ref(alloc: Global, sought: &NameRef<'_>) -> TeraResult<Name>
         ensures { Gives (λ n. n) result (Ok sought.now) }
     {
         Ok(Name {
@@ -73,10 +73,10 @@ impl Name {
     }
 
     /// The name to look for: nothing is copied, and nothing is found anew.
-    pub fn sought(&self) -> Sought<'_>
+    pub fn as_name_ref(&self) -> NameRef<'_>
         ensures { result ≡ self.now }
     {
-        Sought {
+        NameRef {
             text: self.text.as_str(),
             hash: self.hash,
             counter: self.counter,
@@ -149,13 +149,13 @@ impl Hash for Name {
 /// A name that is looked for. Its text lies elsewhere; its hash and what it counts are found once, so that a look-up
 /// compares texts only where they are long and their hashes are the same. Takes no memory.
 #[derive(Drop)]
-pub struct Sought<'a> {
+pub struct NameRef<'a> {
     text: &'a str,
     hash: u64,
     counter: Option<Counter>,
 }
 
-impl<'a> Model for Sought<'a> {
+impl<'a> Model for NameRef<'a> {
     ghost use Rattle.std.specs.Prelude.{ℕ, List};
     ghost use Rattle.tera_values.specs.Naming.{IsOf};
 
@@ -166,15 +166,15 @@ impl<'a> Model for Sought<'a> {
     ghost invariant = { λ s. IsOf s.text.now s.hash s.counter };
 }
 
-impl<'a> Sought<'a> {
+impl<'a> NameRef<'a> {
     /// The text as a name to look for.
-    pub fn new(text: &'a str) -> Sought<'a>
+    pub fn new(text: &'a str) -> NameRef<'a>
         ensures { result ≡ text.now }
     {
-        Sought {
+        NameRef {
             text,
             hash: hash_of(text),
-            counter: Counter::named(text),
+            counter: Counter::by_name(text),
         }
     }
 
@@ -208,21 +208,21 @@ impl<'a> Sought<'a> {
     }
 }
 
-impl<'a> PartialEq for Sought<'a> {
+impl<'a> PartialEq for NameRef<'a> {
     ghost eq = { bytes_eq };
 
     ghost laws = { partial_equiv_from_equiv nat_list_eq_equiv };
 
-    fn eq(&self, other: &Sought<'a>) -> bool {
+    fn eq(&self, other: &NameRef<'a>) -> bool {
         is_text(self.hash, self.text, other.hash, other.text)
     }
 }
 
-impl<'a> Eq for Sought<'a> {
+impl<'a> Eq for NameRef<'a> {
     ghost laws = { nat_list_eq_equiv };
 }
 
-impl<'a> Hash for Sought<'a> {
+impl<'a> Hash for NameRef<'a> {
     ghost hash_input = { hashed };
 
     ghost respects_eq = { same_hashed };
@@ -233,7 +233,7 @@ impl<'a> Hash for Sought<'a> {
 }
 
 // So a map whose keys are names is asked for one that is looked for, and hashes eight bytes.
-impl<'a, 's> Equivalent<Name> for &'s Sought<'a> {
+impl<'a, 's> Equivalent<Name> for &'s NameRef<'a> {
     ghost equivalent = { λ q n. bytes_eq q.now n };
 
     ghost respects_hash = { λ q. same_hashed q.now };
@@ -285,13 +285,13 @@ fn short_hash(text: &str) -> u64
     requires { length text.now < 8 }
     ensures { result ≡ short_hash text.now }
 {
-    let number = packed(text);
+    let number = pack_bytes(text);
     number * 64 + number % 63
 }
 
 // A short text as a number: its bytes as digits behind a 1, which tells how many they are.
 #[inline(always)]
-fn packed(text: &str) -> u64
+fn pack_bytes(text: &str) -> u64
     requires { length text.now < 8 }
     ensures { result ≡ packed text.now }
 {

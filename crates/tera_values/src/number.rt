@@ -74,7 +74,7 @@ fn no_sign(alloc: Global, value: &Value) -> Error
 
 /// What is calculated from the two integers, or an error that names the operator's sign where there are not two.
 #[inline(always)]
-fn calculated<F: FnOnce(i128, i128) -> Option<i128>>(
+fn value_of_calculation<F: FnOnce(i128, i128) -> Option<i128>>(
     alloc: Global,
     left: &Value,
     right: &Value,
@@ -166,7 +166,7 @@ pub fn add(alloc: Global, left: &Value, right: &Value) -> TeraResult<Value>
     ensures value { Gives (λ v. v) result (add left.now right.now) }
     ensures ready { IsOk (add left.now right.now) → IsOk result }
 {
-    calculated(alloc, left, right, "+", i128::checked_add)
+    value_of_calculation(alloc, left, right, "+", i128::checked_add)
 }
 
 /// The difference.
@@ -175,7 +175,7 @@ pub fn sub(alloc: Global, left: &Value, right: &Value) -> TeraResult<Value>
     ensures value { Gives (λ v. v) result (sub left.now right.now) }
     ensures ready { IsOk (sub left.now right.now) → IsOk result }
 {
-    calculated(alloc, left, right, "-", i128::checked_sub)
+    value_of_calculation(alloc, left, right, "-", i128::checked_sub)
 }
 
 /// The product.
@@ -184,7 +184,7 @@ pub fn mul(alloc: Global, left: &Value, right: &Value) -> TeraResult<Value>
     ensures value { Gives (λ v. v) result (mul left.now right.now) }
     ensures ready { IsOk (mul left.now right.now) → IsOk result }
 {
-    calculated(alloc, left, right, "*", i128::checked_mul)
+    value_of_calculation(alloc, left, right, "*", i128::checked_mul)
 }
 
 /// The exact quotient; an error where it is not whole, as at a zero divisor.
@@ -192,7 +192,7 @@ pub fn div(alloc: Global, left: &Value, right: &Value) -> TeraResult<Value>
     ensures value { Gives (λ v. v) result (div left.now right.now) }
     ensures ready { IsOk (div left.now right.now) → IsOk result }
 {
-    calculated(alloc, left, right, "/", exact_quotient)
+    value_of_calculation(alloc, left, right, "/", exact_quotient)
 }
 
 /// Euclid's quotient; an error at a zero divisor.
@@ -200,7 +200,7 @@ pub fn floor_div(alloc: Global, left: &Value, right: &Value) -> TeraResult<Value
     ensures value { Gives (λ v. v) result (floor_div left.now right.now) }
     ensures ready { IsOk (floor_div left.now right.now) → IsOk result }
 {
-    calculated(alloc, left, right, "//", quotient)
+    value_of_calculation(alloc, left, right, "//", quotient)
 }
 
 /// Euclid's remainder, which is never negative; an error at a zero divisor.
@@ -208,7 +208,7 @@ pub fn rem(alloc: Global, left: &Value, right: &Value) -> TeraResult<Value>
     ensures value { Gives (λ v. v) result (rem left.now right.now) }
     ensures ready { IsOk (rem left.now right.now) → IsOk result }
 {
-    calculated(alloc, left, right, "%", remainder)
+    value_of_calculation(alloc, left, right, "%", remainder)
 }
 
 /// The power; an error at a negative exponent. `0 ** 0` is 1.
@@ -216,7 +216,7 @@ pub fn pow(alloc: Global, left: &Value, right: &Value) -> TeraResult<Value>
     ensures value { Gives (λ v. v) result (pow left.now right.now) }
     ensures ready { IsOk (pow left.now right.now) → IsOk result }
 {
-    calculated(alloc, left, right, "**", power)
+    value_of_calculation(alloc, left, right, "**", power)
 }
 
 /// The number with the other sign.

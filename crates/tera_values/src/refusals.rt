@@ -8,7 +8,7 @@ use tera_values_data::Value;
 
 /// The value that is worked on, or the argument of a name, is of a wrong type: a value that is `wanted`, as `a string`, is none.
 #[inline(never)]
-pub fn unfit(alloc: Global, argument: Option<&str>, value: &Value, wanted: &str) -> Error
+pub fn unfit_value(alloc: Global, argument: Option<&str>, value: &Value, wanted: &str) -> Error
     ensures { result ≡ Some invalid_argument }
 {
     let kind = value.in_words();
@@ -17,14 +17,14 @@ pub fn unfit(alloc: Global, argument: Option<&str>, value: &Value, wanted: &str)
         None => format!(in alloc; "the value is {kind}, and {wanted} is wanted"),
     };
     match words {
-        Ok(words) => Error::invalid_argument().telling(alloc, words.as_str()),
+        Ok(words) => Error::invalid_argument().with_message(alloc, words.as_str()),
         Err(_) => Error::invalid_argument(),
     }
 }
 
 /// The error of what was read of a value, which tells what is wanted, as that of an argument.
 #[inline(never)]
-pub(crate) fn of_argument(alloc: Global, error: Error, argument: &str, value: &Value) -> Error
+pub(crate) fn argument_error(alloc: Global, error: Error, argument: &str, value: &Value) -> Error
     ensures { result ≡ error }
 {
     match error.kind() {
@@ -37,18 +37,18 @@ pub(crate) fn of_argument(alloc: Global, error: Error, argument: &str, value: &V
         None => format!(in alloc; "the argument `{argument}` is {kind}"),
     };
     match told {
-        Ok(words) => error.telling(alloc, words.as_str()),
+        Ok(words) => error.with_message(alloc, words.as_str()),
         Err(_) => error,
     }
 }
 
 /// A value is of a wrong type, and this is wanted.
 #[inline(never)]
-pub(crate) fn unfit_for(alloc: Global, wanted: &str) -> Error
+pub(crate) fn not_of_type(alloc: Global, wanted: &str) -> Error
     ensures { result ≡ Some invalid_argument }
 {
     match format!(in alloc; "{wanted} is wanted") {
-        Ok(words) => Error::invalid_argument().telling(alloc, words.as_str()),
+        Ok(words) => Error::invalid_argument().with_message(alloc, words.as_str()),
         Err(_) => Error::invalid_argument(),
     }
 }

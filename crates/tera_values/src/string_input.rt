@@ -84,7 +84,7 @@ impl StringInput {
     }
 
     /// What is written for the text where the state stands: its escape where text is escaped and this is not safe.
-    pub fn rendered<S: WritesValues>(&self, state: &S) -> TeraResult<String>
+    pub fn render<S: WritesValues>(&self, state: &S) -> TeraResult<String>
         ensures { Gives string_bytes result (Ok (S.written state.now self.now)) }
     {
         state.escape_if_needed(&self.value)

@@ -7,7 +7,7 @@ use Rattle.tera_values_data.specs.Val.{Val, KeyVal}
 use Rattle.tera_values_data.specs.Index.{IsIndex, IsAt, IsGapFor}
 use Rattle.tera_values_data.specs.declared.key_order.KeyOrder.{KeyOrder}
 use Rattle.tera_values_data.specs.declared.key_order.Gap.{Gap}
-use Rattle.tera_values_data.specs.declared.key_order.Walk.{Walk}
+use Rattle.tera_values_data.specs.declared.key_order.KeyWalk.{KeyWalk}
 
 abbrev pub rows : List (Vec ℕ Global) → List (List ℕ)
 rows = map (λ v. v.items)
@@ -57,5 +57,5 @@ pub record HasGap (o : KeyOrder) (es : List (KeyVal × Val)) (k : KeyVal) (g : G
   pub gap : IsGapFor (flat o) es k (place_of o g)
 
 -- what a walk has not passed yet
-abbrev pub left : Walk → List ℕ
+abbrev pub left : KeyWalk → List ℕ
 left w = w.piece.now ++ concat (rows w.rest.now)

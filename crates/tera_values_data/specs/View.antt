@@ -5,23 +5,23 @@ use Rattle.std.proofs.Common.{map as map_list}
 use Rattle.tera_values_data.specs.Val.{Val, KeyVal, kbool, kint, ktext, undefined, none, bool, int, text, bytes, array, map, vals, entries}
 use Rattle.tera_values_data.specs.declared.key.Key.{Key}
 use Rattle.tera_values_data.specs.declared.key.Key.TheVariants as key
-use Rattle.tera_values_data.specs.declared.key.Wanted.{Wanted}
-use Rattle.tera_values_data.specs.declared.key.Wanted.TheVariants as wanted
+use Rattle.tera_values_data.specs.declared.key.KeyRef.{KeyRef}
+use Rattle.tera_values_data.specs.declared.key.KeyRef.TheVariants as wanted
 use Rattle.tera_values_data.specs.declared.value.Entry.{Entry}
-use Rattle.tera_values_data.specs.declared.value.Node.{Node}
-use Rattle.tera_values_data.specs.declared.value.Node.TheVariants as node
+use Rattle.tera_values_data.specs.declared.value.Representation.{Representation}
+use Rattle.tera_values_data.specs.declared.value.Representation.TheVariants as node
 
 abbrev pub key_view : Key → KeyVal
 key_view (key.Bool b) = kbool b
 key_view (key.Int z) = kint z
 key_view (key.Text t) = ktext (string_bytes t)
 
-abbrev pub wanted_view : Wanted → KeyVal
+abbrev pub wanted_view : KeyRef → KeyVal
 wanted_view (wanted.Bool b) = kbool b
 wanted_view (wanted.Int z) = kint z
 wanted_view (wanted.Text t) = ktext t.now
 
-abbrev pub node_view : Node → Val
+abbrev pub node_view : Representation → Val
 node_view node.Undefined = undefined
 node_view node.None = none
 node_view (node.Bool b) = bool b

@@ -5,8 +5,8 @@ ghost use Rattle.tera_values_data.specs.Val.{vals};
 ghost use Rattle.tera_values_data.specs.Access.{key_of};
 ghost use Rattle.tera_values_data.specs.Slices.{is_part, has_item, has_key, contains};
 
-use crate::key::Wanted;
-use crate::refusals::{holds_nothing, no_part};
+use crate::key::KeyRef;
+use crate::refusals::{no_container, no_part};
 use crate::shape::Shape;
 use crate::value::{Map, Value};
 use memchr::memmem;
@@ -34,9 +34,9 @@ fn has_key(all: &Map, wanted: &Value) -> bool
     ensures { result ≡ has_key (key_of wanted.now) all.now }
 {
     match wanted.shape() {
-        Shape::Bool(flag) => all.value_at(&Wanted::Bool(flag)).is_some(),
-        Shape::Int(number) => all.value_at(&Wanted::Int(number)).is_some(),
-        Shape::Text(name, _) => all.value_at(&Wanted::Text(name)).is_some(),
+        Shape::Bool(flag) => all.value_at(&KeyRef::Bool(flag)).is_some(),
+        Shape::Int(number) => all.value_at(&KeyRef::Int(number)).is_some(),
+        Shape::Text(name, _) => all.value_at(&KeyRef::Text(name)).is_some(),
         _ => false,
     }
 }
@@ -55,7 +55,7 @@ impl Value {
                 _ => Err(no_part(alloc, wanted)),
             },
             Shape::Map(all) => Ok(has_key(all, wanted)),
-            _ => Err(holds_nothing(alloc, self)),
+            _ => Err(no_container(alloc, self)),
         }
     }
 }

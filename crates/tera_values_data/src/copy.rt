@@ -4,7 +4,7 @@ ghost use Rattle.tera_errors.specs.Prelude.{Gives, Lacks};
 ghost use Rattle.tera_values_data.specs.Access.{IsScalar, IsFlat};
 ghost use Rattle.tera_values_data.specs.View.{entry_views};
 
-use crate::value::{Entry, Map, Node, Table, Value};
+use crate::value::{Entry, Map, Representation, EntryTable, Value};
 use std::alloc::Global;
 use std::mem::replace;
 use std::rc::Rc;
@@ -18,36 +18,36 @@ impl Value {
         ensures ready { IsScalar self.now → IsOk result }
     {
         match &self.node {
-            Node::Undefined => Ok(Value {
-                node: Node::Undefined,
+            Representation::Undefined => Ok(Value {
+                node: Representation::Undefined,
             }),
-            Node::None => Ok(Value { node: Node::None }),
-            Node::Bool(flag) => Ok(Value {
-                node: Node::Bool(*flag),
+            Representation::None => Ok(Value { node: Representation::None }),
+            Representation::Bool(flag) => Ok(Value {
+                node: Representation::Bool(*flag),
             }),
-            Node::Int(number) => Ok(Value {
-                node: Node::Int(*number),
+            Representation::Int(number) => Ok(Value {
+                node: Representation::Int(*number),
             }),
-            Node::Short(safe, content) => Ok(Value {
-                node: Node::Short(*safe, *content),
+            Representation::Short(safe, content) => Ok(Value {
+                node: Representation::Short(*safe, *content),
             }),
-            Node::Text(safe, content) => Ok(Value {
-                node: Node::Text(*safe, content.clone()?),
+            Representation::Text(safe, content) => Ok(Value {
+                node: Representation::Text(*safe, content.clone()?),
             }),
-            Node::Bytes(content) => Ok(Value {
-                node: Node::Bytes(content.clone()?),
+            Representation::Bytes(content) => Ok(Value {
+                node: Representation::Bytes(content.clone()?),
             }),
-            Node::Array(items) => Ok(Value {
-                node: Node::Array(copy_items(*items.allocator(), items.as_slice())?),
+            Representation::Array(items) => Ok(Value {
+                node: Representation::Array(copy_items(*items.allocator(), items.as_slice())?),
             }),
-            Node::Shared(items) => Ok(Value {
-                node: Node::Shared(items.clone()?),
+            Representation::Shared(items) => Ok(Value {
+                node: Representation::Shared(items.clone()?),
             }),
-            Node::Map(all) => Ok(Value {
-                node: Node::Map(all.try_clone()?),
+            Representation::Map(all) => Ok(Value {
+                node: Representation::Map(all.try_clone()?),
             }),
-            Node::SharedMap(all) => Ok(Value {
-                node: Node::SharedMap(all.clone()?),
+            Representation::SharedMap(all) => Ok(Value {
+                node: Representation::SharedMap(all.clone()?),
             }),
         }
     }
@@ -90,7 +90,7 @@ impl Map {
                 let all = copy_entries(self.alloc, table.all.as_slice())?;
                 Ok(Map {
                     alloc: self.alloc,
-                    table: Some(Box::new(self.alloc, Table { all, by_key })?),
+                    table: Some(Box::new(self.alloc, EntryTable { all, by_key })?),
                 })
             }
             None => Ok(Map::new(self.alloc)),
@@ -101,20 +101,20 @@ impl Map {
 impl Value {
     /// The same value, kept so that a copy of it or of any part of it is a count.
     #[cycle(sharing)]
-    pub fn shared(self, alloc: Global) -> TeraResult<Value>
+    pub fn into_shared(self, alloc: Global) -> TeraResult<Value>
         ensures value { Gives (λ v. v) result (Ok self) }
         ensures ready { IsFlat self → IsOk result }
     {
-        match self.into_node() {
-            Node::Array(items) => {
+        match self.into_representation() {
+            Representation::Array(items) => {
                 let mut items = items;
                 share_items(alloc, items.as_mut_slice())?;
                 Ok(Value {
-                    node: Node::Shared(Rc::new(alloc, items)?),
+                    node: Representation::Shared(Rc::new(alloc, items)?),
                 })
             }
-            Node::Map(all) => Ok(Value {
-                node: Node::SharedMap(Rc::new(alloc, share_map(alloc, all)?)?),
+            Representation::Map(all) => Ok(Value {
+                node: Representation::SharedMap(Rc::new(alloc, share_map(alloc, all)?)?),
             }),
             node => Ok(Value { node }),
         }
@@ -139,11 +139,11 @@ fn share(alloc: Global, value: &mut Value) -> TeraResult<()>
     ensures lacks { IfErr result Lacks }
 {
     match &value.node {
-        Node::Array(_) | Node::Map(_) => {}
+        Representation::Array(_) | Representation::Map(_) => {}
         _ => return Ok(()),
     }
     let whole = replace(value, Value::undefined());
-    let kept = whole.shared(alloc)?;
+    let kept = whole.into_shared(alloc)?;
     let hole = replace(value, kept);
     drop(hole);
     Ok(())
@@ -160,10 +160,10 @@ fn share_map(alloc: Global, all: Map) -> TeraResult<Map>
     match table {
         Some(table) => {
             let mut table = table;
-            let Table { all, by_key } = replace(&mut *table, Table::new(kept_by));
+            let EntryTable { all, by_key } = replace(&mut *table, EntryTable::new(kept_by));
             let mut all = all;
             share_entries(alloc, all.as_mut_slice())?;
-            let empty = replace(&mut *table, Table { all, by_key });
+            let empty = replace(&mut *table, EntryTable { all, by_key });
             drop(empty);
             Ok(Map {
                 alloc: kept_by,

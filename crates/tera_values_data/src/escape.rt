@@ -81,9 +81,9 @@ fn lanes_before(bytes: &[u8], from: usize, a: u8, b: u8, c: u8, d: u8, e: u8) ->
 }
 
 /// Text as it stands in markup.
-struct Markup;
+struct Html;
 
-impl Forms for Markup {
+impl Forms for Html {
     ghost spelled = { escape_byte };
 
     #[inline]
@@ -126,21 +126,21 @@ impl Forms for Xml {
 
     #[inline]
     fn has_form(byte: u8) -> bool {
-        Markup::has_form(byte)
+        Html::has_form(byte)
     }
 
     #[inline(always)]
     fn append_form(byte: u8, out: &mut String) -> Result<bool, AllocError> {
         match byte {
             b'\'' => append("&apos;", out)?,
-            _ => return Markup::append_form(byte, out),
+            _ => return Html::append_form(byte, out),
         }
         Ok(true)
     }
 
     #[inline]
     fn plain_lanes(bytes: &[u8], from: usize) -> usize {
-        Markup::plain_lanes(bytes, from)
+        Html::plain_lanes(bytes, from)
     }
 }
 
@@ -310,7 +310,7 @@ pub fn escape_html(text: &str, out: &mut String) -> TeraResult<()>
     ensures err { OnErr result (string_bytes out.new ≡ string_bytes out.old) }
     ensures lacks { IfErr result Lacks }
 {
-    append_escaped::<Markup>(text, out)?;
+    append_escaped::<Html>(text, out)?;
     Ok(())
 }
 

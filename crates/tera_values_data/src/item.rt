@@ -7,7 +7,7 @@ ghost use Rattle.tera_values_data.specs.Access.{IsScalar, find, key_of};
 ghost use Rattle.tera_values_data.specs.Items.{position_of, char_text, item_at, byte_at, char_from, found_at, or_undefined, get_item};
 
 use crate::ascii::char_count;
-use crate::key::Wanted;
+use crate::key::KeyRef;
 use crate::refusals::{no_key, no_position, without_items};
 use crate::shape::Shape;
 use crate::value::{Map, Value};
@@ -89,7 +89,7 @@ fn char_in(alloc: Global, text: &str, index: i128) -> TeraResult<Value>
     }
 }
 
-fn value_in(all: &Map, wanted: &Wanted<'_>) -> TeraResult<Value>
+fn value_in(all: &Map, wanted: &KeyRef<'_>) -> TeraResult<Value>
     ensures value { Gives (λ v. v) result
         (Ok (or_undefined (find (wanted_view wanted.now) all.now))) }
     ensures ready { IsScalar (or_undefined (find (wanted_view wanted.now) all.now)) →
@@ -106,9 +106,9 @@ fn entry_in(alloc: Global, all: &Map, index: &Value) -> TeraResult<Value>
     ensures ready { IsOkAnd (found_at (key_of index.now) all.now) IsScalar → IsOk result }
 {
     match index.shape() {
-        Shape::Bool(flag) => value_in(all, &Wanted::Bool(flag)),
-        Shape::Int(number) => value_in(all, &Wanted::Int(number)),
-        Shape::Text(name, _) => value_in(all, &Wanted::Text(name)),
+        Shape::Bool(flag) => value_in(all, &KeyRef::Bool(flag)),
+        Shape::Int(number) => value_in(all, &KeyRef::Int(number)),
+        Shape::Text(name, _) => value_in(all, &KeyRef::Text(name)),
         _ => Err(no_key(alloc, index)),
     }
 }

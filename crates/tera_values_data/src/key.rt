@@ -18,20 +18,20 @@ pub enum Key {
 
 /// A key that is looked for.
 #[derive(Drop)]
-pub(crate) enum Wanted<'a> {
+pub(crate) enum KeyRef<'a> {
     Bool(bool),
     Int(i128),
     Text(&'a str),
 }
 
 impl Key {
-    pub(crate) fn wanted(&self) -> Wanted<'_>
+    pub(crate) fn as_key_ref(&self) -> KeyRef<'_>
         ensures { wanted_view result ≡ key_view self.now }
     {
         match self {
-            Key::Bool(flag) => Wanted::Bool(*flag),
-            Key::Int(number) => Wanted::Int(*number),
-            Key::Text(name) => Wanted::Text(name.as_str()),
+            Key::Bool(flag) => KeyRef::Bool(*flag),
+            Key::Int(number) => KeyRef::Int(*number),
+            Key::Text(name) => KeyRef::Text(name.as_str()),
         }
     }
 
@@ -49,21 +49,21 @@ impl Key {
 }
 
 /// How the key stands to the wanted one in the order of keys.
-pub(crate) fn compare_key(key: &Key, wanted: &Wanted<'_>) -> Ordering
+pub(crate) fn compare_key(key: &Key, wanted: &KeyRef<'_>) -> Ordering
     ensures { result ≡ key_cmp (key_view key.now) (wanted_view wanted.now) }
 {
     match key {
         Key::Bool(a) => match wanted {
-            Wanted::Bool(b) => a.cmp(b),
+            KeyRef::Bool(b) => a.cmp(b),
             _ => Ordering::Less,
         },
         Key::Int(a) => match wanted {
-            Wanted::Bool(_) => Ordering::Greater,
-            Wanted::Int(b) => a.cmp(b),
-            Wanted::Text(_) => Ordering::Less,
+            KeyRef::Bool(_) => Ordering::Greater,
+            KeyRef::Int(b) => a.cmp(b),
+            KeyRef::Text(_) => Ordering::Less,
         },
         Key::Text(a) => match wanted {
-            Wanted::Text(b) => a.as_str().cmp(*b),
+            KeyRef::Text(b) => a.as_str().cmp(*b),
             _ => Ordering::Greater,
         },
     }

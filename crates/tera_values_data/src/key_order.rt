@@ -7,7 +7,7 @@ ghost use Rattle.tera_values_data.specs.Index.{nth_key, IsRising, IsAt, IsGapFor
 ghost use Rattle.tera_values_data.specs.Keys.{key_cmp};
 ghost use Rattle.tera_values_data.specs.KeyOrder.{pieces, flat, piece_at, place_of, left, IsFull, IsKept, IsInside, Stands, HasGap};
 
-use crate::key::{Wanted, compare_key};
+use crate::key::{KeyRef, compare_key};
 use crate::value::Entry;
 use std::alloc::{AllocError, Global};
 use std::cmp::Ordering;
@@ -35,14 +35,14 @@ pub(crate) struct Gap {
 
 /// A walk along the positions.
 #[derive(Drop)]
-pub(crate) struct Walk<'a> {
+pub(crate) struct KeyWalk<'a> {
     piece: &'a [usize],
     rest: &'a [Vec<usize>],
 }
 
 /// How the first key of a piece stands to the wanted one.
 #[inline]
-fn compare_first(all: &[Entry], by_key: &[usize], wanted: &Wanted<'_>) -> Ordering
+fn compare_first(all: &[Entry], by_key: &[usize], wanted: &KeyRef<'_>) -> Ordering
     requires rising { IsRising by_key.now (entry_views all.now) }
     requires some { 0 < length by_key.now }
     ensures { result ≡ key_cmp (nth_key by_key.now (entry_views all.now) 0) (wanted_view wanted.now) }
@@ -51,7 +51,7 @@ fn compare_first(all: &[Entry], by_key: &[usize], wanted: &Wanted<'_>) -> Orderi
 }
 
 /// Where the key stands in a piece, or where it would stand.
-fn search(all: &[Entry], by_key: &[usize], wanted: &Wanted<'_>) -> Result<usize, usize>
+fn search(all: &[Entry], by_key: &[usize], wanted: &KeyRef<'_>) -> Result<usize, usize>
     requires { IsRising by_key.now (entry_views all.now) }
     ensures found { IfOk result (IsAt by_key.now (entry_views all.now) (wanted_view wanted.now)) }
     ensures absent { IfErr result (IsGapFor by_key.now (entry_views all.now)
@@ -102,7 +102,7 @@ impl KeyOrder {
     }
 
     /// The piece in which a key stands, or would stand: the last that does not begin above it.
-    fn piece_of(&self, all: &[Entry], wanted: &Wanted<'_>) -> usize
+    fn piece_of(&self, all: &[Entry], wanted: &KeyRef<'_>) -> usize
         requires { IsKept self.now (entry_views all.now) }
         ensures there { result ≤ length self.now.rest.items }
         ensures from { 0 < result → key_cmp (nth_key (piece_at (pieces self.now) result)
@@ -124,7 +124,7 @@ impl KeyOrder {
     }
 
     /// The position of the entry that has the key, or the gap that the key would fill.
-    pub(crate) fn find(&self, all: &[Entry], wanted: &Wanted<'_>) -> Result<usize, Gap>
+    pub(crate) fn find(&self, all: &[Entry], wanted: &KeyRef<'_>) -> Result<usize, Gap>
         requires { IsKept self.now (entry_views all.now) }
         ensures found { IfOk result (Stands (flat self.now) (entry_views all.now)
             (wanted_view wanted.now)) }
@@ -185,12 +185,12 @@ impl KeyOrder {
             return;
         }
         if let Ok(later) = Vec::from_slice(*self.first.allocator(), &piece[KEPT..]) {
-            self.part(number, later);
+            self.split_piece(number, later);
         }
     }
 
     /// Puts behind a piece, as one of its own, what stands there behind `KEPT` positions, if there is memory for it.
-    fn part(&mut self, number: usize, later: Vec<usize>)
+    fn split_piece(&mut self, number: usize, later: Vec<usize>)
         requires there { number ≤ length self.old.rest.items }
         requires long { 128 < length (piece_at (pieces self.old) number) }
         requires behind { later.items ≡ drop 128 (piece_at (pieces self.old) number) }
@@ -217,22 +217,22 @@ impl KeyOrder {
         }
     }
 
-    pub(crate) fn walk(&self) -> Walk<'_>
+    pub(crate) fn walk(&self) -> KeyWalk<'_>
         ensures { left result ≡ flat self.now }
     {
-        Walk {
+        KeyWalk {
             piece: self.first.as_slice(),
             rest: self.rest.as_slice(),
         }
     }
 }
 
-impl<'a> Walk<'a> {
+impl<'a> KeyWalk<'a> {
     /// A walk along no positions.
-    pub(crate) fn nowhere() -> Walk<'a>
+    pub(crate) fn of_none() -> KeyWalk<'a>
         ensures { left result ≡ [] }
     {
-        Walk {
+        KeyWalk {
             piece: &[],
             rest: &[],
         }

@@ -7,9 +7,9 @@ ghost use Rattle.tera_values_data.specs.Index.{IsIndex, IsDistinct};
 ghost use Rattle.tera_values_data.specs.KeyOrder.{left};
 ghost use Rattle.tera_values_data.specs.Access.{find, insert_pair};
 
-use crate::key::{Key, Wanted};
-use crate::key_order::Walk;
-use crate::value::{Entry, Map, Table, Value};
+use crate::key::{Key, KeyRef};
+use crate::key_order::KeyWalk;
+use crate::value::{Entry, Map, EntryTable, Value};
 use std::alloc::Global;
 use tera_errors::TeraResult;
 
@@ -32,12 +32,12 @@ impl Map {
     }
 
     /// The positions of the entries, in the order of their keys.
-    pub(crate) fn by_key(&self) -> Walk<'_>
+    pub(crate) fn by_key(&self) -> KeyWalk<'_>
         ensures { IsIndex (left result) self.now }
     {
         match &self.table {
             Some(table) => table.by_key.walk(),
-            None => Walk::nowhere(),
+            None => KeyWalk::of_none(),
         }
     }
 
@@ -67,7 +67,7 @@ impl Map {
     pub fn get(&self, key: &Key) -> Option<&Value>
         ensures { option_copied result ≡ find (key_view key.now) self.now }
     {
-        self.value_at(&key.wanted())
+        self.value_at(&key.as_key_ref())
     }
 
     /// The value at a text key.
@@ -80,7 +80,7 @@ impl Map {
         }
     }
 
-    pub(crate) fn value_at(&self, wanted: &Wanted<'_>) -> Option<&Value>
+    pub(crate) fn value_at(&self, wanted: &KeyRef<'_>) -> Option<&Value>
         ensures { option_copied result ≡ find (wanted_view wanted.now) self.now }
     {
         match &self.table {
@@ -100,7 +100,7 @@ impl Map {
         match &mut self.table {
             Some(table) => table.insert(key, value),
             None => {
-                let mut table = Table::new(self.alloc);
+                let mut table = EntryTable::new(self.alloc);
                 table.insert(key, value)?;
                 self.table = Some(Box::new(self.alloc, table)?);
                 Ok(())

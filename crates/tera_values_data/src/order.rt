@@ -8,7 +8,7 @@ ghost use Rattle.tera_values_data.specs.Order.{rank, order, pair_order, comparab
 ghost use Rattle.tera_values_data.specs.Finite.{IsSameMap};
 
 use crate::key::compare_key;
-use crate::key_order::Walk;
+use crate::key_order::KeyWalk;
 use crate::shape::Shape;
 use crate::value::{Entry, Map, Value};
 use std::cmp::Ordering;
@@ -83,7 +83,7 @@ fn compare_items(a: &[Value], b: &[Value]) -> Ordering
 
 /// The entries of two maps, each in the order of its keys.
 #[cycle(comparing)]
-fn compare_entries(a: &[Entry], a_keys: Walk<'_>, b: &[Entry], b_keys: Walk<'_>) -> Ordering
+fn compare_entries(a: &[Entry], a_keys: KeyWalk<'_>, b: &[Entry], b_keys: KeyWalk<'_>) -> Ordering
     requires first { IsIndex (left a_keys) (entry_views a.now) }
     requires second { IsIndex (left b_keys) (entry_views b.now) }
     ensures { result ≡ slice_cmp pair_order (picked (left a_keys.entry) (entry_views a.now))
@@ -97,7 +97,7 @@ fn compare_entries(a: &[Entry], a_keys: Walk<'_>, b: &[Entry], b_keys: Walk<'_>)
         };
         let x = &a[i];
         let y = &b[j];
-        let keys = compare_key(&x.key, &y.key.wanted());
+        let keys = compare_key(&x.key, &y.key.as_key_ref());
         if keys.is_ne() {
             return keys;
         }
@@ -169,7 +169,7 @@ fn checked_cmp_items(a: &[Value], b: &[Value]) -> Option<Ordering>
 
 impl Map {
     /// Whether the two maps find equal values at every key.
-    pub fn same_as(&self, other: &Map) -> bool
+    pub fn is_same_as(&self, other: &Map) -> bool
         ensures { IsSameMap result self.now other.now }
     {
         let answer = compare_entries(

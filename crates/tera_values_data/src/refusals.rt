@@ -64,7 +64,7 @@ pub(crate) fn no_part(alloc: Global, part: &Value) -> Error
 
 /// Nothing can be in it.
 #[inline(never)]
-pub(crate) fn holds_nothing(alloc: Global, value: &Value) -> Error
+pub(crate) fn no_container(alloc: Global, value: &Value) -> Error
     ensures { Tells result message }
 {
     let kind = value.in_words();

@@ -2,7 +2,7 @@
 ghost use Rattle.std.specs.Prelude.{◌≡◌};
 ghost use Rattle.tera_values_data.specs.Shape.{shape_view};
 
-use crate::value::{Map, Node, Value};
+use crate::value::{Map, Representation, Value};
 
 /// What a value is, with its content lent. Takes no memory.
 #[derive(Drop)]
@@ -25,17 +25,17 @@ impl Value {
         ensures { shape_view result ≡ self.now }
     {
         match &self.node {
-            Node::Undefined => Shape::Undefined,
-            Node::None => Shape::None,
-            Node::Bool(flag) => Shape::Bool(*flag),
-            Node::Int(number) => Shape::Int(*number),
-            Node::Short(safe, content) => Shape::Text(content.as_str(), *safe),
-            Node::Text(safe, content) => Shape::Text(content.as_ref().as_str(), *safe),
-            Node::Bytes(content) => Shape::Bytes(content.as_ref().as_slice()),
-            Node::Array(items) => Shape::Array(items.as_slice()),
-            Node::Shared(items) => Shape::Array(items.as_ref().as_slice()),
-            Node::Map(all) => Shape::Map(all),
-            Node::SharedMap(all) => Shape::Map(all.as_ref()),
+            Representation::Undefined => Shape::Undefined,
+            Representation::None => Shape::None,
+            Representation::Bool(flag) => Shape::Bool(*flag),
+            Representation::Int(number) => Shape::Int(*number),
+            Representation::Short(safe, content) => Shape::Text(content.as_str(), *safe),
+            Representation::Text(safe, content) => Shape::Text(content.as_ref().as_str(), *safe),
+            Representation::Bytes(content) => Shape::Bytes(content.as_ref().as_slice()),
+            Representation::Array(items) => Shape::Array(items.as_slice()),
+            Representation::Shared(items) => Shape::Array(items.as_ref().as_slice()),
+            Representation::Map(all) => Shape::Map(all),
+            Representation::SharedMap(all) => Shape::Map(all.as_ref()),
         }
     }
 }

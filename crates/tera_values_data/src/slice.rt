@@ -32,7 +32,7 @@ fn bound(number: Option<i128>, default: usize, length: usize, at_it: bool) -> us
     }
 }
 
-fn upward(alloc: Global, start: usize, end: usize, step: u128) -> TeraResult<Vec<usize>>
+fn positions_upward(alloc: Global, start: usize, end: usize, step: u128) -> TeraResult<Vec<usize>>
     requires moves { 0 < step }
     requires fits { step ≤ 2 ^ 127 }
     ensures { Gives (λ v. v.items) result (Ok (upward end start end step)) }
@@ -46,7 +46,7 @@ fn upward(alloc: Global, start: usize, end: usize, step: u128) -> TeraResult<Vec
     Ok(positions)
 }
 
-fn downward(alloc: Global, start: usize, end: usize, step: u128) -> TeraResult<Vec<usize>>
+fn positions_downward(alloc: Global, start: usize, end: usize, step: u128) -> TeraResult<Vec<usize>>
     requires { 0 < step }
     ensures { Gives (λ v. v.items) result (Ok (downward start start end step)) }
 {
@@ -74,11 +74,11 @@ fn positions(
     if step > 0 {
         let first = bound(start, 0, length, false);
         let last = bound(end, length, length, false);
-        upward(alloc, first, last, stride)
+        positions_upward(alloc, first, last, stride)
     } else {
         let first = bound(start, length, length, true);
         let last = bound(end, 0, length, true);
-        downward(alloc, first, last, stride)
+        positions_downward(alloc, first, last, stride)
     }
 }
 

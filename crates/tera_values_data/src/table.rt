@@ -6,9 +6,9 @@ ghost use Rattle.tera_values_data.specs.View.{key_view, wanted_view, entry_views
 ghost use Rattle.tera_values_data.specs.Index.{IsDistinct};
 ghost use Rattle.tera_values_data.specs.Access.{find, insert_pair, key_eq};
 
-use crate::key::{Key, Wanted};
+use crate::key::{Key, KeyRef};
 use crate::key_order::KeyOrder;
-use crate::value::{Entry, Table, Value};
+use crate::value::{Entry, EntryTable, Value};
 use std::alloc::Global;
 use std::mem::replace;
 use tera_errors::TeraResult;
@@ -36,11 +36,11 @@ fn first_at<'a>(all: &'a [Entry], name: &str) -> Option<&'a Value>
     None
 }
 
-impl Table {
-    pub(crate) fn new(alloc: Global) -> Table
+impl EntryTable {
+    pub(crate) fn new(alloc: Global) -> EntryTable
         ensures { result ≡ [] }
     {
-        Table {
+        EntryTable {
             all: Vec::new(alloc),
             by_key: KeyOrder::new(alloc),
         }
@@ -63,7 +63,7 @@ impl Table {
         }
     }
 
-    pub(crate) fn value_at(&self, wanted: &Wanted<'_>) -> Option<&Value>
+    pub(crate) fn value_at(&self, wanted: &KeyRef<'_>) -> Option<&Value>
         ensures { option_copied result ≡ find (wanted_view wanted.now) self.now }
     {
         match self.by_key.find(self.all.as_slice(), wanted) {
@@ -78,7 +78,7 @@ impl Table {
         if self.all.len() <= 8 {
             first_at(self.all.as_slice(), name)
         } else {
-            self.value_at(&Wanted::Text(name))
+            self.value_at(&KeyRef::Text(name))
         }
     }
 
@@ -88,7 +88,7 @@ impl Table {
         ensures there { IsSome (find (key_view key) self.old) → IsOk result }
         ensures lacks { IfErr result Lacks }
     {
-        match self.by_key.find(self.all.as_slice(), &key.wanted()) {
+        match self.by_key.find(self.all.as_slice(), &key.as_key_ref()) {
             Ok(position) => {
                 let old = replace(&mut self.all[position].value, value);
                 drop(old);

@@ -29,7 +29,7 @@ pub enum ValueKind {
 /// A value of a template. A copy of a long text, of bytes and of what is in shared form is a count.
 #[cycle(value)]
 pub struct Value {
-    pub(crate) node: Node,
+    pub(crate) node: Representation,
 }
 
 // By hand, so that a value that goes out of scope is one call and not a match on every node. What holds no memory is
@@ -40,7 +40,7 @@ impl Drop for Value {
     fn drop(self) {
         let Value { node } = self;
         match node {
-            Node::Undefined | Node::None | Node::Bool(_) | Node::Int(_) | Node::Short(_, _) => {}
+            Representation::Undefined | Representation::None | Representation::Bool(_) | Representation::Int(_) | Representation::Short(_, _) => {}
             node => drop(node),
         }
     }
@@ -49,7 +49,7 @@ impl Drop for Value {
 /// How a value is kept. What `Shared` and `SharedMap` hold is shared all the way down.
 #[cycle(value)]
 #[derive(Drop)]
-pub(crate) enum Node {
+pub(crate) enum Representation {
     Undefined,
     None,
     Bool(bool),
@@ -74,7 +74,7 @@ pub(crate) struct Entry {
 /// Entries in order of insertion, and beside them the order of their keys.
 #[cycle(value)]
 #[derive(Drop)]
-pub(crate) struct Table {
+pub(crate) struct EntryTable {
     pub(crate) all: Vec<Entry>,
     pub(crate) by_key: KeyOrder,
 }
@@ -85,7 +85,7 @@ pub(crate) struct Table {
 #[derive(Drop)]
 pub struct Map {
     pub(crate) alloc: Global,
-    pub(crate) table: Option<Box<Table>>,
+    pub(crate) table: Option<Box<EntryTable>>,
 }
 
 impl Model for Value {
@@ -107,7 +107,7 @@ impl Model for Value {
     ghost size_decreases = { λ v h. falls v.node };
 }
 
-impl Model for Table {
+impl Model for EntryTable {
     ghost use Rattle.std.specs.Prelude.{List};
     ghost use Rattle.tera_values_data.specs.Val.{Val, KeyVal, entries, entries_size};
     ghost use Rattle.tera_values_data.specs.Coding.{entries_coding};
@@ -157,7 +157,7 @@ impl Value {
         ensures { result ≡ undefined }
     {
         Value {
-            node: Node::Undefined,
+            node: Representation::Undefined,
         }
     }
 
@@ -165,7 +165,7 @@ impl Value {
     pub fn none() -> Value
         ensures { result ≡ none }
     {
-        Value { node: Node::None }
+        Value { node: Representation::None }
     }
 
     /// A boolean.
@@ -173,7 +173,7 @@ impl Value {
         ensures { result ≡ bool flag }
     {
         Value {
-            node: Node::Bool(flag),
+            node: Representation::Bool(flag),
         }
     }
 
@@ -182,7 +182,7 @@ impl Value {
         ensures { result ≡ int number }
     {
         Value {
-            node: Node::Int(number),
+            node: Representation::Int(number),
         }
     }
 
@@ -208,7 +208,7 @@ impl Value {
     {
         match ArrayString::from(content.as_str()) {
             Ok(short) => Ok(Value {
-                node: Node::Short(is_safe, short),
+                node: Representation::Short(is_safe, short),
             }),
             Err(_) => Value::long_text(alloc, content, is_safe),
         }
@@ -219,20 +219,20 @@ impl Value {
     {
         match ArrayString::from(content) {
             Ok(short) => Ok(Value {
-                node: Node::Short(is_safe, short),
+                node: Representation::Short(is_safe, short),
             }),
             Err(_) => Value::long_text(alloc, String::from_str(alloc, content)?, is_safe),
         }
     }
 
     /// The two texts as one, in a buffer of the right size.
-    pub fn joined(alloc: Global, left: &str, right: &str, is_safe: bool) -> TeraResult<Value>
+    pub fn join(alloc: Global, left: &str, right: &str, is_safe: bool) -> TeraResult<Value>
         ensures { Gives (λ v. v) result (Ok (text (left.now ++ right.now) is_safe)) }
     {
         let mut short = ArrayString::new();
         if short.try_push_str(left).is_ok() && short.try_push_str(right).is_ok() {
             return Ok(Value {
-                node: Node::Short(is_safe, short),
+                node: Representation::Short(is_safe, short),
             });
         }
         let length = left.len().saturating_add(right.len());
@@ -247,7 +247,7 @@ impl Value {
         ensures { Gives (λ v. v) result (Ok (text (string_bytes content) is_safe)) }
     {
         Ok(Value {
-            node: Node::Text(is_safe, Rc::new(alloc, content)?),
+            node: Representation::Text(is_safe, Rc::new(alloc, content)?),
         })
     }
 
@@ -257,7 +257,7 @@ impl Value {
     {
         let content = Vec::from_slice(alloc, content)?;
         Ok(Value {
-            node: Node::Bytes(Rc::new(alloc, content)?),
+            node: Representation::Bytes(Rc::new(alloc, content)?),
         })
     }
 
@@ -266,7 +266,7 @@ impl Value {
         ensures { result ≡ array (vals items.items) }
     {
         Value {
-            node: Node::Array(items),
+            node: Representation::Array(items),
         }
     }
 
@@ -275,11 +275,11 @@ impl Value {
         ensures { result ≡ map (entries all) }
     {
         Value {
-            node: Node::Map(all),
+            node: Representation::Map(all),
         }
     }
 
-    pub(crate) fn into_node(self) -> Node
+    pub(crate) fn into_representation(self) -> Representation
         ensures { node_view result ≡ self }
     {
         let Value { node } = self;
@@ -290,12 +290,12 @@ impl Value {
     pub fn mark_safe(self) -> Value
         ensures { result ≡ marked self }
     {
-        match self.into_node() {
-            Node::Short(_, content) => Value {
-                node: Node::Short(true, content),
+        match self.into_representation() {
+            Representation::Short(_, content) => Value {
+                node: Representation::Short(true, content),
             },
-            Node::Text(_, content) => Value {
-                node: Node::Text(true, content),
+            Representation::Text(_, content) => Value {
+                node: Representation::Text(true, content),
             },
             node => Value { node },
         }

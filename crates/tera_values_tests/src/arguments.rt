@@ -14,7 +14,7 @@ fn put(kwargs: &mut Kwargs, value: Option<Value>) -> bool {
 }
 
 /// The argument `x` alone.
-fn given(alloc: Global, sample: Sample) -> Option<Kwargs> {
+fn kwargs_of(alloc: Global, sample: Sample) -> Option<Kwargs> {
     let mut kwargs = Kwargs::new(alloc);
     if put(&mut kwargs, value(alloc, sample)) {
         Some(kwargs)
@@ -23,19 +23,19 @@ fn given(alloc: Global, sample: Sample) -> Option<Kwargs> {
     }
 }
 
-fn needed<T: ArgFromValue>(alloc: Global, sample: Sample, name: &str) -> Option<TeraResult<T>> {
-    match given(alloc, sample) {
+fn required_argument<T: ArgFromValue>(alloc: Global, sample: Sample, name: &str) -> Option<TeraResult<T>> {
+    match kwargs_of(alloc, sample) {
         Some(kwargs) => Some(kwargs.must_get(name)),
         None => None,
     }
 }
 
-fn optional<T: ArgFromValue>(
+fn optional_argument<T: ArgFromValue>(
     alloc: Global,
     sample: Sample,
     name: &str,
 ) -> Option<TeraResult<Option<T>>> {
-    match given(alloc, sample) {
+    match kwargs_of(alloc, sample) {
         Some(kwargs) => Some(kwargs.get(name)),
         None => None,
     }
@@ -49,17 +49,17 @@ fn is_refused<T: Drop>(answer: Option<TeraResult<T>>, want: &str) -> bool {
 }
 
 fn wrong_are_refused(alloc: Global) -> bool {
-    let narrow: Option<TeraResult<u32>> = needed(alloc, WIDE, "x");
-    let missing: Option<TeraResult<u32>> = needed(alloc, WIDE, "y");
-    let wrong: Option<TeraResult<Option<bool>>> = optional(alloc, WIDE, "x");
+    let narrow: Option<TeraResult<u32>> = required_argument(alloc, WIDE, "x");
+    let missing: Option<TeraResult<u32>> = required_argument(alloc, WIDE, "y");
+    let wrong: Option<TeraResult<Option<bool>>> = optional_argument(alloc, WIDE, "x");
     is_refused(narrow, "invalid argument")
         && is_refused(missing, "missing argument")
         && is_refused(wrong, "invalid argument")
 }
 
 fn reads_numbers(alloc: Global) -> bool {
-    let whole: Option<TeraResult<i128>> = needed(alloc, WIDE, "x");
-    let size: Option<TeraResult<Option<usize>>> = optional(alloc, WIDE, "x");
+    let whole: Option<TeraResult<i128>> = required_argument(alloc, WIDE, "x");
+    let size: Option<TeraResult<Option<usize>>> = optional_argument(alloc, WIDE, "x");
     let small = u32::from_value(alloc, &Value::from_int(7));
     matches!(whole, Some(Ok(4_294_967_296)))
         && matches!(size, Some(Ok(Some(4_294_967_296))))
@@ -67,13 +67,13 @@ fn reads_numbers(alloc: Global) -> bool {
 }
 
 fn reads_flags(alloc: Global) -> bool {
-    let flag: Option<TeraResult<bool>> = needed(alloc, Truth(true), "x");
-    let absent: Option<TeraResult<Option<bool>>> = optional(alloc, WIDE, "y");
+    let flag: Option<TeraResult<bool>> = required_argument(alloc, Truth(true), "x");
+    let absent: Option<TeraResult<Option<bool>>> = optional_argument(alloc, WIDE, "y");
     matches!(flag, Some(Ok(true))) && matches!(absent, Some(Ok(None)))
 }
 
 fn reads_text(alloc: Global) -> bool {
-    let read: Option<TeraResult<String>> = needed(alloc, Text("<b>"), "x");
+    let read: Option<TeraResult<String>> = required_argument(alloc, Text("<b>"), "x");
     match read {
         Some(Ok(text)) => text.as_str() == "<b>",
         _ => false,
@@ -81,7 +81,7 @@ fn reads_text(alloc: Global) -> bool {
 }
 
 fn reads_items(alloc: Global) -> bool {
-    let read: Option<TeraResult<Vec<Value>>> = needed(alloc, Ints(&[1, 2]), "x");
+    let read: Option<TeraResult<Vec<Value>>> = required_argument(alloc, Ints(&[1, 2]), "x");
     match read {
         Some(Ok(items)) => items.len() == 2,
         _ => false,
@@ -89,7 +89,7 @@ fn reads_items(alloc: Global) -> bool {
 }
 
 fn reads_map(alloc: Global) -> bool {
-    let read: Option<TeraResult<Map>> = needed(alloc, Pairs(&[("a", 0)]), "x");
+    let read: Option<TeraResult<Map>> = required_argument(alloc, Pairs(&[("a", 0)]), "x");
     match read {
         Some(Ok(all)) => all.len() == 1,
         _ => false,
@@ -97,7 +97,7 @@ fn reads_map(alloc: Global) -> bool {
 }
 
 fn reads_value(alloc: Global) -> bool {
-    let read: Option<TeraResult<Value>> = needed(alloc, Ints(&[1, 2]), "x");
+    let read: Option<TeraResult<Value>> = required_argument(alloc, Ints(&[1, 2]), "x");
     match read {
         Some(Ok(value)) => is_value(alloc, &value, "array [1, 2]"),
         _ => false,

@@ -37,7 +37,7 @@ fn show(alloc: Global, rest: Option<&str>) -> TeraResult<ComponentDefinition> {
     ComponentDefinition::new(alloc, &signature)
 }
 
-fn named(alloc: Global, pairs: &[(&str, Sample)]) -> TeraResult<Context> {
+fn context_of(alloc: Global, pairs: &[(&str, Sample)]) -> TeraResult<Context> {
     let mut all = Context::new(alloc);
     for (name, sample) in pairs {
         match value(alloc, *sample) {
@@ -54,15 +54,15 @@ fn by_name(
     given: &[(&str, Sample)],
     implicits: &[(&str, Sample)],
 ) -> TeraResult<Value> {
-    let given = named(alloc, given)?;
-    let implicits = named(alloc, implicits)?;
+    let given = context_of(alloc, given)?;
+    let implicits = context_of(alloc, implicits)?;
     let caller = Scopes::new(alloc, &implicits, None);
     let arguments = show(alloc, rest)?.bind_by_name(alloc, &given, &caller, None)?;
     arguments.to_context()?.to_value()
 }
 
 fn with_body(alloc: Global, given: &Map, body: Value) -> TeraResult<Value> {
-    let implicits = named(alloc, &[("name", Text("Vincent"))])?;
+    let implicits = context_of(alloc, &[("name", Text("Vincent"))])?;
     let context = show(alloc, None)?.build_context(alloc, given, &implicits, Some(body))?;
     context.to_value()
 }
@@ -130,7 +130,7 @@ fn bodies_are_bound(rt: HostRuntime) {
 }
 
 /// The names of 100 parameters, in falling order.
-fn falling(alloc: Global) -> TeraResult<Vec<String>> {
+fn falling_names(alloc: Global) -> TeraResult<Vec<String>> {
     let mut names = Vec::new(alloc);
     for number in 0..100_u32 {
         names.push(format!(in alloc; "p{}", 999 - number)?)?;
@@ -169,7 +169,7 @@ fn is_bound(context: &Context, name: &str, number: i128) -> bool {
 }
 
 fn many_are_bound(alloc: Global) -> TeraResult<bool> {
-    let context = bound_of(alloc, falling(alloc)?.as_slice())?;
+    let context = bound_of(alloc, falling_names(alloc)?.as_slice())?;
     Ok(
         context.names()?.len() == 102
             && is_bound(&context, "body", 1)
@@ -197,8 +197,8 @@ fn looks_up(alloc: Global, implicits: &Context, global: &Context) -> bool {
 #[test]
 fn implicits_are_looked_up_in_contexts_and_states(rt: HostRuntime) {
     let alloc = rt.alloc();
-    let implicits = named(alloc, &[("name", Text("Vincent"))]);
-    let global = named(alloc, &[("lang", Text("en")), ("name", Undefined)]);
+    let implicits = context_of(alloc, &[("name", Text("Vincent"))]);
+    let global = context_of(alloc, &[("lang", Text("en")), ("name", Undefined)]);
     match (implicits, global) {
         (Ok(implicits), Ok(global)) => assert!(rt; looks_up(alloc, &implicits, &global)),
         _ => assert!(rt; false),

@@ -27,19 +27,19 @@ fn keeps_positions(alloc: Global) -> bool {
     }
 }
 
-fn mixed(number: u32) -> Key
+fn mixed_key(number: u32) -> Key
     requires { number < 10000 }
 {
     Key::Int(i128::from(number * 7_919 % 10_007))
 }
 
-fn many(alloc: Global) -> Option<Map> {
+fn map_of_many(alloc: Global) -> Option<Map> {
     let mut many = Map::new(alloc);
     let mut whole = true;
     for number in 0..10_000_u32 {
         whole = whole
             && many
-                .insert(mixed(number), Value::from_int(i128::from(number)))
+                .insert(mixed_key(number), Value::from_int(i128::from(number)))
                 .is_ok();
     }
     if whole { Some(many) } else { None }
@@ -49,7 +49,7 @@ fn finds(all: &Map) -> bool {
     let mut right = all.len() == 10_000 && all.get(&Key::Int(10_007)).is_none();
     for number in 0..10_000_u32 {
         right = right
-            && match all.get(&mixed(number)) {
+            && match all.get(&mixed_key(number)) {
                 Some(value) => value.as_i128() == Some(i128::from(number)),
                 None => false,
             };
@@ -65,7 +65,7 @@ fn copy_finds(all: &Map) -> bool {
 }
 
 fn finds_many(alloc: Global) -> bool {
-    match many(alloc) {
+    match map_of_many(alloc) {
         Some(all) => copy_finds(&all),
         None => false,
     }
@@ -78,7 +78,7 @@ fn names(context: &mut Context, name: &str, value: Option<Value>) -> bool {
     }
 }
 
-fn listed(context: &Context, out: &mut String) -> bool {
+fn lists_names(context: &Context, out: &mut String) -> bool {
     match context.names() {
         Ok(names) => {
             let mut whole = true;
@@ -107,10 +107,10 @@ fn context_keeps(alloc: Global, out: &mut String) -> bool {
     whole
         && names(&mut context, "a", value(alloc, Ints(&[1, 2])))
         && has_two(context.get("a"))
-        && listed(&context, out)
+        && lists_names(&context, out)
 }
 
-fn numbered(alloc: Global) -> TeraResult<Context> {
+fn numbered_context(alloc: Global) -> TeraResult<Context> {
     let mut context = Context::new(alloc);
     for (name, number) in [("b", 1), ("é", 2), ("a", 3), ("ab", 4)] {
         context.insert(name, Value::from_int(number))?;
@@ -119,7 +119,7 @@ fn numbered(alloc: Global) -> TeraResult<Context> {
 }
 
 fn copies_some(alloc: Global) -> TeraResult<bool> {
-    let all = numbered(alloc)?;
+    let all = numbered_context(alloc)?;
     let some = all.try_clone_with(&["é", "x", "a", "é"])?.to_value()?;
     let others = all.try_clone_without(&["é", "x", "a", "é"])?.to_value()?;
     Ok(

@@ -5,7 +5,7 @@ use crate::sample::Sample::{Int, Ints, Nothing, Pairs, Safe, Text, Truth, Undefi
 use crate::sample::{Sample, first_wrong, value};
 use std::alloc::Global;
 use tera_operators::{
-    Operand, array, attribute, binary, binary_in_place, item, map, negative, not, slice,
+    Operand, array, attribute, binary, binary_in_place, item, map, negate, not, slice,
 };
 use tera_syntax_tree::{BinaryOperator as Op, OwnedKey};
 use tera_values::{Error, ErrorKind, Shape, Span, TeraResult};
@@ -13,7 +13,7 @@ use tera_values::{Error, ErrorKind, Shape, Span, TeraResult};
 const NODE: Span = Span { start: 1, end: 99 };
 
 /// An operand whose two bytes begin here.
-fn placed(alloc: Global, sample: Sample, start: usize) -> Option<Operand>
+fn operand_at(alloc: Global, sample: Sample, start: usize) -> Option<Operand>
     requires { start < 1000 }
 {
     let span = Span {
@@ -25,13 +25,13 @@ fn placed(alloc: Global, sample: Sample, start: usize) -> Option<Operand>
 
 /// Operands from 10 to 12 and from 20 to 22.
 fn pair(alloc: Global, left: Sample, right: Sample) -> Option<(Operand, Operand)> {
-    Some((placed(alloc, left, 10)?, placed(alloc, right, 20)?))
+    Some((operand_at(alloc, left, 10)?, operand_at(alloc, right, 20)?))
 }
 
 fn push(all: &mut Vec<Operand>, alloc: Global, sample: Sample, start: usize) -> bool
     requires { start < 1000 }
 {
-    match placed(alloc, sample, start) {
+    match operand_at(alloc, sample, start) {
         Some(operand) => all.push(operand).is_ok(),
         None => false,
     }
@@ -89,10 +89,10 @@ fn answers(alloc: Global, answer: TeraResult<Operand>, want: &str) -> bool {
 
 /// An operator between operands from 10 to 12 and from 20 to 22, and what it comes to.
 #[derive(Clone, Copy)]
-struct Between(Op, Sample, Sample, &'static str);
+struct OperatorRow(Op, Sample, Sample, &'static str);
 
-fn joins(alloc: Global, row: Between) -> bool {
-    let Between(operator, left, right, want) = row;
+fn joins(alloc: Global, row: OperatorRow) -> bool {
+    let OperatorRow(operator, left, right, want) = row;
     match pair(alloc, left, right) {
         Some((left, right)) => {
             let answer = binary(alloc, "page", operator, &left, &right, NODE);
@@ -102,62 +102,62 @@ fn joins(alloc: Global, row: Between) -> bool {
     }
 }
 
-const JOINED: [Between; 35] = [
-    Between(Op::Add, Int(2), Int(3), "int [5] 10-22"),
-    Between(Op::Add, Text("a"), Int(1), "fault in page 10-22"),
-    Between(Op::Add, Int(i128::MAX), Int(1), "fault in page 10-22"),
-    Between(Op::Subtract, Int(2), Int(3), "int [-1] 10-22"),
-    Between(Op::Subtract, Nothing, Text("a"), "fault in page 10-12"),
-    Between(Op::Subtract, Int(2), Text("a"), "fault in page 20-22"),
-    Between(Op::Subtract, Int(i128::MIN), Int(1), "fault in page 10-22"),
-    Between(Op::Multiply, Int(6), Int(-7), "int [-42] 10-22"),
-    Between(Op::Divide, Int(8), Int(2), "int [4] 10-22"),
-    Between(Op::Divide, Int(7), Int(2), "fault in page 10-22"),
-    Between(Op::Divide, Text("a"), Int(0), "fault in page 10-12"),
-    Between(Op::FloorDivide, Int(-7), Int(2), "int [-4] 10-22"),
-    Between(Op::FloorDivide, Int(7), Int(0), "fault in page 20-22"),
-    Between(
+const JOINED: [OperatorRow; 35] = [
+    OperatorRow(Op::Add, Int(2), Int(3), "int [5] 10-22"),
+    OperatorRow(Op::Add, Text("a"), Int(1), "fault in page 10-22"),
+    OperatorRow(Op::Add, Int(i128::MAX), Int(1), "fault in page 10-22"),
+    OperatorRow(Op::Subtract, Int(2), Int(3), "int [-1] 10-22"),
+    OperatorRow(Op::Subtract, Nothing, Text("a"), "fault in page 10-12"),
+    OperatorRow(Op::Subtract, Int(2), Text("a"), "fault in page 20-22"),
+    OperatorRow(Op::Subtract, Int(i128::MIN), Int(1), "fault in page 10-22"),
+    OperatorRow(Op::Multiply, Int(6), Int(-7), "int [-42] 10-22"),
+    OperatorRow(Op::Divide, Int(8), Int(2), "int [4] 10-22"),
+    OperatorRow(Op::Divide, Int(7), Int(2), "fault in page 10-22"),
+    OperatorRow(Op::Divide, Text("a"), Int(0), "fault in page 10-12"),
+    OperatorRow(Op::FloorDivide, Int(-7), Int(2), "int [-4] 10-22"),
+    OperatorRow(Op::FloorDivide, Int(7), Int(0), "fault in page 20-22"),
+    OperatorRow(
         Op::FloorDivide,
         Int(i128::MIN),
         Int(-1),
         "fault in page 10-22",
     ),
-    Between(Op::Remainder, Int(-7), Int(2), "int [1] 10-22"),
-    Between(Op::Remainder, Int(7), Nothing, "fault in page 20-22"),
-    Between(Op::Power, Int(2), Int(10), "int [1024] 10-22"),
-    Between(Op::Power, Int(0), Int(0), "int [1] 10-22"),
-    Between(Op::Power, Int(2), Int(-1), "fault in page 10-22"),
-    Between(Op::Power, Int(2), Int(127), "fault in page 10-22"),
-    Between(Op::Concat, Int(1024), Text("x"), "string [1024x] 10-22"),
-    Between(Op::Concat, Safe("a"), Safe("b"), "string [ab] 10-22"),
-    Between(
+    OperatorRow(Op::Remainder, Int(-7), Int(2), "int [1] 10-22"),
+    OperatorRow(Op::Remainder, Int(7), Nothing, "fault in page 20-22"),
+    OperatorRow(Op::Power, Int(2), Int(10), "int [1024] 10-22"),
+    OperatorRow(Op::Power, Int(0), Int(0), "int [1] 10-22"),
+    OperatorRow(Op::Power, Int(2), Int(-1), "fault in page 10-22"),
+    OperatorRow(Op::Power, Int(2), Int(127), "fault in page 10-22"),
+    OperatorRow(Op::Concat, Int(1024), Text("x"), "string [1024x] 10-22"),
+    OperatorRow(Op::Concat, Safe("a"), Safe("b"), "string [ab] 10-22"),
+    OperatorRow(
         Op::Concat,
         Undefined,
         Ints(&[1, 2]),
         "string [[1, 2]] 10-22",
     ),
-    Between(Op::In, Int(2), Ints(&[1, 2]), "bool [true] 1-99"),
-    Between(Op::In, Text("x"), Text("abc"), "bool [false] 1-99"),
-    Between(Op::In, Text("b"), Pairs(&[("b", 1)]), "bool [true] 1-99"),
-    Between(Op::In, Int(1), Int(2), "fault in page 20-22"),
-    Between(Op::Equal, Safe("a"), Text("a"), "bool [true] 10-22"),
-    Between(Op::NotEqual, Int(1), Text("1"), "bool [true] 10-22"),
-    Between(Op::Less, Int(1), Int(2), "bool [true] 10-22"),
-    Between(Op::Less, Text("a"), Int(2), "fault in page 10-22"),
-    Between(Op::Greater, Ints(&[1, 2]), Ints(&[1]), "bool [true] 10-22"),
-    Between(
+    OperatorRow(Op::In, Int(2), Ints(&[1, 2]), "bool [true] 1-99"),
+    OperatorRow(Op::In, Text("x"), Text("abc"), "bool [false] 1-99"),
+    OperatorRow(Op::In, Text("b"), Pairs(&[("b", 1)]), "bool [true] 1-99"),
+    OperatorRow(Op::In, Int(1), Int(2), "fault in page 20-22"),
+    OperatorRow(Op::Equal, Safe("a"), Text("a"), "bool [true] 10-22"),
+    OperatorRow(Op::NotEqual, Int(1), Text("1"), "bool [true] 10-22"),
+    OperatorRow(Op::Less, Int(1), Int(2), "bool [true] 10-22"),
+    OperatorRow(Op::Less, Text("a"), Int(2), "fault in page 10-22"),
+    OperatorRow(Op::Greater, Ints(&[1, 2]), Ints(&[1]), "bool [true] 10-22"),
+    OperatorRow(
         Op::LessOrEqual,
         Truth(false),
         Truth(false),
         "bool [true] 10-22",
     ),
-    Between(
+    OperatorRow(
         Op::GreaterOrEqual,
         Text("a"),
         Text("b"),
         "bool [false] 10-22",
     ),
-    Between(Op::GreaterOrEqual, Nothing, Nothing, "fault in page 10-22"),
+    OperatorRow(Op::GreaterOrEqual, Nothing, Nothing, "fault in page 10-22"),
 ];
 
 #[test]
@@ -167,8 +167,8 @@ fn operators_between_operands(rt: HostRuntime) {
 }
 
 /// The operator, done in place: whether that is done where it is due, and what the left operand is after.
-fn changes(alloc: Global, row: Between, is_due: bool) -> bool {
-    let Between(operator, left, right, want) = row;
+fn changes(alloc: Global, row: OperatorRow, is_due: bool) -> bool {
+    let OperatorRow(operator, left, right, want) = row;
     match pair(alloc, left, right) {
         Some((mut left, right)) => {
             let is_done = binary_in_place(operator, &mut left, &right);
@@ -178,8 +178,8 @@ fn changes(alloc: Global, row: Between, is_due: bool) -> bool {
     }
 }
 
-fn of_numbers(row: (Op, i128, i128, &'static str)) -> Between {
-    Between(row.0, Int(row.1), Int(row.2), row.3)
+fn of_numbers(row: (Op, i128, i128, &'static str)) -> OperatorRow {
+    OperatorRow(row.0, Int(row.1), Int(row.2), row.3)
 }
 
 /// The bounds of 64 bits, and one number beyond them.
@@ -266,14 +266,14 @@ const UNCHANGED: [(Op, i128, i128, &str); 15] = [
 ];
 
 /// What is no number.
-const OTHERS: [Between; 7] = [
-    Between(Op::Add, Text("a"), Int(1), "string [a] 10-12"),
-    Between(Op::Add, Int(1), Text("a"), "int [1] 10-12"),
-    Between(Op::Equal, Safe("a"), Safe("a"), "safe string [a] 10-12"),
-    Between(Op::NotEqual, Int(1), Text("1"), "int [1] 10-12"),
-    Between(Op::Less, Truth(false), Int(1), "bool [false] 10-12"),
-    Between(Op::Remainder, Undefined, Int(2), "undefined [] 10-12"),
-    Between(Op::In, Int(1), Ints(&[1]), "int [1] 10-12"),
+const OTHERS: [OperatorRow; 7] = [
+    OperatorRow(Op::Add, Text("a"), Int(1), "string [a] 10-12"),
+    OperatorRow(Op::Add, Int(1), Text("a"), "int [1] 10-12"),
+    OperatorRow(Op::Equal, Safe("a"), Safe("a"), "safe string [a] 10-12"),
+    OperatorRow(Op::NotEqual, Int(1), Text("1"), "int [1] 10-12"),
+    OperatorRow(Op::Less, Truth(false), Int(1), "bool [false] 10-12"),
+    OperatorRow(Op::Remainder, Undefined, Int(2), "undefined [] 10-12"),
+    OperatorRow(Op::In, Int(1), Ints(&[1]), "int [1] 10-12"),
 ];
 
 #[test]
@@ -289,10 +289,10 @@ fn what_changes_nothing(rt: HostRuntime) {
 
 fn turns(alloc: Global, row: (Sample, &str, &str)) -> bool {
     let (sample, inverse, minus) = row;
-    match placed(alloc, sample, 10) {
+    match operand_at(alloc, sample, 10) {
         Some(operand) => {
             answers(alloc, Ok(not(&operand)), inverse)
-                && answers(alloc, negative(alloc, "page", &operand), minus)
+                && answers(alloc, negate(alloc, "page", &operand), minus)
         }
         None => false,
     }
@@ -312,7 +312,7 @@ fn signs_are_turned(rt: HostRuntime) {
 }
 
 fn has_attribute(alloc: Global, target: Sample, name: &str, optional: bool, want: &str) -> bool {
-    match placed(alloc, target, 10) {
+    match operand_at(alloc, target, 10) {
         Some(target) => {
             let answer = attribute(alloc, "page", &target, name, optional, NODE);
             answers(alloc, answer, want)

@@ -72,7 +72,7 @@ fn values_are_ordered(rt: HostRuntime) {
 }
 
 /// Two entries, of which the marked text goes last.
-fn marked(alloc: Global) -> Option<Map> {
+fn marked_map(alloc: Global) -> Option<Map> {
     let mut all = Map::new(alloc);
     if all.insert(Key::Int(1), Value::none()).is_ok()
         && put(alloc, &mut all, "a", value(alloc, Safe("t")))
@@ -84,7 +84,7 @@ fn marked(alloc: Global) -> Option<Map> {
 }
 
 /// The same entries the other way round, the text unmarked.
-fn unmarked(alloc: Global) -> Option<Map> {
+fn unmarked_map(alloc: Global) -> Option<Map> {
     let mut all = Map::new(alloc);
     if put(alloc, &mut all, "a", value(alloc, Text("t")))
         && all.insert(Key::Int(1), Value::none()).is_ok()
@@ -97,14 +97,14 @@ fn unmarked(alloc: Global) -> Option<Map> {
 
 fn is_same(one: &Map, other: Option<Map>) -> bool {
     match other {
-        Some(other) => one.same_as(&other),
+        Some(other) => one.is_same_as(&other),
         None => false,
     }
 }
 
 fn maps_are_same(alloc: Global) -> bool {
-    match marked(alloc) {
-        Some(one) => is_same(&one, unmarked(alloc)),
+    match marked_map(alloc) {
+        Some(one) => is_same(&one, unmarked_map(alloc)),
         None => false,
     }
 }
@@ -128,8 +128,8 @@ fn values_are_equal_by_content(rt: HostRuntime) {
     let alloc = rt.alloc();
     let mut right = maps_are_same(alloc)
         && are_equal(
-            marked(alloc).map(Value::map),
-            unmarked(alloc).map(Value::map),
+            marked_map(alloc).map(Value::map),
+            unmarked_map(alloc).map(Value::map),
         );
     for (one, other, same) in [
         (Text("a"), Safe("a"), true),

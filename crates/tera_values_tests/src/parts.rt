@@ -26,7 +26,7 @@ fn with_number(alloc: Global) -> Option<Map> {
 
 /// Whether the value in shared form goes to the end, and a text escaped behind it.
 fn goes_to_end(alloc: Global, value: Value, out: &mut String) -> bool {
-    match value.shared(alloc) {
+    match value.into_shared(alloc) {
         Ok(value) => {
             value.print_to(out).is_ok()
                 && escape_html("a&<b>\"'日", out).is_ok()
@@ -72,9 +72,9 @@ fn values_print(rt: HostRuntime) {
     assert!(rt; right);
 }
 
-type Bounds = (Option<i128>, Option<i128>, Option<i128>);
+type SliceBounds = (Option<i128>, Option<i128>, Option<i128>);
 
-fn slices(alloc: Global, sample: Sample, bounds: Bounds, want: &str) -> bool {
+fn slices(alloc: Global, sample: Sample, bounds: SliceBounds, want: &str) -> bool {
     match value(alloc, sample) {
         Some(value) => answers(
             alloc,
@@ -119,12 +119,12 @@ fn slices_are_cut(rt: HostRuntime) {
     assert!(rt; right);
 }
 
-fn rooted(alloc: Global) -> Option<Value> {
+fn nested_value(alloc: Global) -> Option<Value> {
     entry(alloc, "a", array(alloc, &[Pairs(&[("b", 7)])]))
 }
 
 fn leads(alloc: Global, path: &str, want: &str) -> bool {
-    match rooted(alloc) {
+    match nested_value(alloc) {
         Some(root) => match root.get_from_path(path) {
             Some(value) => is_value(alloc, value, want),
             None => want == "absent",
@@ -169,7 +169,7 @@ fn parts_are_reached(rt: HostRuntime) {
     let alloc = rt.alloc();
     let mut right = leads(alloc, "a.0.b", "int 7")
         && leads(alloc, "a.1.b", "absent")
-        && has_item(alloc, rooted(alloc), Text("a"), "array [{\"b\": 7}]")
+        && has_item(alloc, nested_value(alloc), Text("a"), "array [{\"b\": 7}]")
         && text_is_key(alloc);
     for (sample, index, want) in [
         (Text("añb"), -2, "string ñ"),
@@ -183,13 +183,13 @@ fn parts_are_reached(rt: HostRuntime) {
     assert!(rt; right);
 }
 
-fn found(answer: TeraResult<bool>) -> TeraResult<Value> {
+fn bool_value(answer: TeraResult<bool>) -> TeraResult<Value> {
     answer.map(|found| Value::from_bool(found))
 }
 
 fn is_held(alloc: Global, whole: &Value, part: Option<Value>, want: &str) -> bool {
     match part {
-        Some(part) => answers(alloc, found(whole.contains(alloc, &part)), want),
+        Some(part) => answers(alloc, bool_value(whole.contains(alloc, &part)), want),
         None => false,
     }
 }

@@ -3,10 +3,10 @@ use Rattle.std.proofs.Common.{◌≡◌, ◌⊎◌, inl, inr, ℕ, suc, ◌+◌,
 use Rattle.tera_errors.specs.declared.span.Span.{Span}
 use Rattle.std.specs.declared.alloc.AllocError.{AllocError}
 use Rattle.tera_syntax_tree.specs.declared.expression.Item.{Item}
-use Rattle.tera_syntax_tree.specs.declared.expression.Entry.{Entry}
+use Rattle.tera_syntax_tree.specs.declared.expression.EntryExpression.{EntryExpression}
 use Rattle.tera_syntax_tree.specs.declared.expression.Argument.{Argument}
 use Rattle.tera_syntax_tree.specs.declared.expression.Applied.{Applied}
-use Rattle.tera_syntax_tree.specs.declared.expression.Called.{Called, out-Called}
+use Rattle.tera_syntax_tree.specs.declared.expression.FunctionCall.{FunctionCall, out-Called}
 use Rattle.tera_syntax_tree.specs.declared.expression.Collected.{Collected}
 use Rattle.tera_syntax_tree.specs.declared.expression.ComponentTag.{ComponentTag, out-ComponentTag}
 use Rattle.tera_syntax_tree.specs.declared.expression.BinaryOperator.{BinaryOperator}
@@ -34,7 +34,7 @@ pub array : (e : Expression) (items : Vec Item Global) (span : Span) (xs : List 
 array e items span xs is a =
     ap (λ x. items_free (items_of x)) a ∙ sym (ap expr_free (ap expr_of is ∙ view_array items span))
 
-pub map : (e : Expression) (entries : Vec Entry Global) (span : Span) (xs : List Entry) → e ≡ expression.Map entries span → xs ≡ entries.items → entries_free (entries_of xs) ≡ expr_free (expr_of e)
+pub map : (e : Expression) (entries : Vec EntryExpression Global) (span : Span) (xs : List EntryExpression) → e ≡ expression.Map entries span → xs ≡ entries.items → entries_free (entries_of xs) ≡ expr_free (expr_of e)
 map e entries span xs is a =
     ap (λ x. entries_free (entries_of x)) a ∙ sym (ap expr_free (ap expr_of is ∙ view_map entries span))
 
@@ -42,11 +42,11 @@ pub super : (e : Expression) (arguments : Vec Argument Global) (span : Span) (xs
 super e arguments span xs is a =
     ap (λ x. arguments_free (arguments_of x)) a ∙ sym (ap expr_free (ap expr_of is ∙ view_super arguments span))
 
-pub call : (e : Expression) (called : Box Called Global) (span : Span) (xs : List Argument) → e ≡ expression.Call called span → xs ≡ (out-Called called.value).arguments.items → arguments_free (arguments_of xs) ≡ expr_free (expr_of e)
+pub call : (e : Expression) (called : Box FunctionCall Global) (span : Span) (xs : List Argument) → e ≡ expression.Call called span → xs ≡ (out-Called called.value).arguments.items → arguments_free (arguments_of xs) ≡ expr_free (expr_of e)
 call e called span xs is a =
     ap (λ x. arguments_free (arguments_of x)) a ∙ sym (ap expr_free (ap expr_of is ∙ view_call called span))
 
-pub component : (e : Expression) (tag : Box ComponentTag Global) (span : Span) (xs : List Entry) → e ≡ expression.Component tag span → xs ≡ (out-ComponentTag tag.value).attributes.items → entries_free (entries_of xs) ≡ expr_free (expr_of e)
+pub component : (e : Expression) (tag : Box ComponentTag Global) (span : Span) (xs : List EntryExpression) → e ≡ expression.Component tag span → xs ≡ (out-ComponentTag tag.value).attributes.items → entries_free (entries_of xs) ≡ expr_free (expr_of e)
 component e tag span xs is a =
     ap (λ x. entries_free (entries_of x)) a ∙ sym (ap expr_free (ap expr_of is ∙ view_component tag span))
 

@@ -6,11 +6,11 @@ ghost use Rattle.tera_syntax_tree.specs.Prelude.{expr_of, optional_of, items_of,
 ghost use Rattle.tera_variables.specs.Free.{expr_free, optional_free, items_free, entries_free, arguments_free, filters_free};
 ghost use Rattle.tera_variables.specs.Sets.{Adds, applied_free, collected_free, bounds_free};
 
-use crate::sets::{Found, add, join, remove_loop_names};
+use crate::sets::{NameSet, add, join, remove_loop_names};
 use std::alloc::{AllocError, Global};
 use std::collections::BTreeSet;
 use tera_syntax_tree::{
-    Applied, Argument, Bounds, Collected, Entry, Expression, Item, SectionFilter,
+    Applied, Argument, Bounds, Collected, EntryExpression, Expression, Item, SectionFilter,
 };
 
 // Puts those of what each part of a row holds among those that were found.
@@ -28,7 +28,7 @@ macro_rules! add_each {
 pub fn add_expression(
     alloc: Global,
     expression: &Expression,
-    found: &mut Found,
+    found: &mut NameSet,
 ) -> Result<(), AllocError>
     ensures { Adds result (expr_free (expr_of expression.now)) found.old found.new }
 {
@@ -76,7 +76,7 @@ pub fn add_expression(
 // Puts those of a comprehension among those that were found.
 #[cycle(expressions)]
 #[inline(never)]
-fn add_collected(alloc: Global, collected: &Collected, found: &mut Found) -> Result<(), AllocError>
+fn add_collected(alloc: Global, collected: &Collected, found: &mut NameSet) -> Result<(), AllocError>
     ensures { Adds result (collected_free collected.now) found.old found.new }
 {
     add_expression(alloc, &collected.heading.target, found)?;
@@ -89,7 +89,7 @@ fn add_collected(alloc: Global, collected: &Collected, found: &mut Found) -> Res
 
 // Puts those of a filter or a test among those that were found.
 #[cycle(expressions)]
-fn add_applied(alloc: Global, applied: &Applied, found: &mut Found) -> Result<(), AllocError>
+fn add_applied(alloc: Global, applied: &Applied, found: &mut NameSet) -> Result<(), AllocError>
     ensures { Adds result (applied_free applied.now) found.old found.new }
 {
     add_arguments(alloc, applied.arguments.as_slice(), found)?;
@@ -98,7 +98,7 @@ fn add_applied(alloc: Global, applied: &Applied, found: &mut Found) -> Result<()
 
 // Puts those of the bounds of a slice among those that were found.
 #[cycle(expressions)]
-fn add_bounds(alloc: Global, bounds: &Bounds, found: &mut Found) -> Result<(), AllocError>
+fn add_bounds(alloc: Global, bounds: &Bounds, found: &mut NameSet) -> Result<(), AllocError>
     ensures { Adds result (bounds_free bounds.now) found.old found.new }
 {
     add_optional(alloc, &bounds.step, found)?;
@@ -110,7 +110,7 @@ fn add_bounds(alloc: Global, bounds: &Bounds, found: &mut Found) -> Result<(), A
 fn add_optional(
     alloc: Global,
     expression: &Option<Box<Expression>>,
-    found: &mut Found,
+    found: &mut NameSet,
 ) -> Result<(), AllocError>
     ensures { Adds result (optional_free (optional_of expression.now)) found.old found.new }
 {
@@ -121,7 +121,7 @@ fn add_optional(
 }
 
 #[cycle(expressions)]
-fn add_items(alloc: Global, items: &[Item], found: &mut Found) -> Result<(), AllocError>
+fn add_items(alloc: Global, items: &[Item], found: &mut NameSet) -> Result<(), AllocError>
     ensures { Adds result (items_free (items_of items.now)) found.old found.new }
 {
     add_each!(alloc, items, found)
@@ -129,14 +129,14 @@ fn add_items(alloc: Global, items: &[Item], found: &mut Found) -> Result<(), All
 
 /// Puts those of entries among those that were found.
 #[cycle(expressions)]
-pub fn add_entries(alloc: Global, entries: &[Entry], found: &mut Found) -> Result<(), AllocError>
+pub fn add_entries(alloc: Global, entries: &[EntryExpression], found: &mut NameSet) -> Result<(), AllocError>
     ensures { Adds result (entries_free (entries_of entries.now)) found.old found.new }
 {
     add_each!(alloc, entries, found)
 }
 
 #[cycle(expressions)]
-fn add_arguments(alloc: Global, arguments: &[Argument], found: &mut Found) -> Result<(), AllocError>
+fn add_arguments(alloc: Global, arguments: &[Argument], found: &mut NameSet) -> Result<(), AllocError>
     ensures { Adds result (arguments_free (arguments_of arguments.now)) found.old found.new }
 {
     add_each!(alloc, arguments, found)
@@ -146,7 +146,7 @@ fn add_arguments(alloc: Global, arguments: &[Argument], found: &mut Found) -> Re
 pub fn add_filters(
     alloc: Global,
     filters: &[SectionFilter],
-    found: &mut Found,
+    found: &mut NameSet,
 ) -> Result<(), AllocError>
     ensures { Adds result (filters_free (filters_of filters.now)) found.old found.new }
 {

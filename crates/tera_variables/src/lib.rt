@@ -5,5 +5,5 @@ mod expressions;
 mod nodes;
 mod sets;
 
-pub use nodes::free;
+pub use nodes::free_names;
 pub use sets::add;

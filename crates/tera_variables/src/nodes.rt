@@ -8,14 +8,14 @@ ghost use Rattle.tera_variables.specs.Free.{free, node_binds, binds, set_binds, 
 ghost use Rattle.tera_variables.specs.Sets.{names_in, before, before_all};
 
 use crate::expressions::{add_entries, add_expression, add_filters};
-use crate::sets::{Found, add as add_name, join, remove, remove_loop_names};
+use crate::sets::{NameSet, add as add_name, join, remove, remove_loop_names};
 use std::alloc::{AllocError, Global};
 use std::collections::BTreeSet;
 use tera_errors::TeraResult;
 use tera_syntax_tree::{Captured, Heading, Node, SectionFilter};
 
 /// The names that are free in nodes, each once.
-pub fn free(alloc: Global, nodes: &[Node]) -> TeraResult<BTreeSet<String>>
+pub fn free_names(alloc: Global, nodes: &[Node]) -> TeraResult<BTreeSet<String>>
     ensures ok { IfOk result (λ s. names_in s ≡ free (nodes_of nodes.now)) }
     ensures lacks { IfErr result Lacks }
 {
@@ -26,7 +26,7 @@ pub fn free(alloc: Global, nodes: &[Node]) -> TeraResult<BTreeSet<String>>
 
 // From the names of what stands behind nodes, those of the nodes and what stands behind them.
 #[cycle(names)]
-fn add_all(alloc: Global, nodes: &[Node], found: &mut Found) -> Result<(), AllocError>
+fn add_all(alloc: Global, nodes: &[Node], found: &mut NameSet) -> Result<(), AllocError>
     ensures { OnOk result
         (names_in found.new ≡ before_all (nodes_of nodes.now) (names_in found.old)) }
 {
@@ -40,7 +40,7 @@ fn add_all(alloc: Global, nodes: &[Node], found: &mut Found) -> Result<(), Alloc
 
 // The same of a node.
 #[cycle(names)]
-fn add(alloc: Global, node: &Node, found: &mut Found) -> Result<(), AllocError>
+fn add(alloc: Global, node: &Node, found: &mut NameSet) -> Result<(), AllocError>
     ensures { OnOk result (names_in found.new ≡ before (node_of node.now) (names_in found.old)) }
 {
     match node {
@@ -98,7 +98,7 @@ fn add_section(
     alloc: Global,
     filters: &[SectionFilter],
     body: &[Node],
-    found: &mut Found,
+    found: &mut NameSet,
 ) -> Result<(), AllocError>
     ensures { OnOk result (names_in found.new
         ≡ before (FilterSection (filters_of filters.now) (nodes_of body.now))
@@ -110,7 +110,7 @@ fn add_section(
 
 // Takes away what the body of a loop binds behind the loop.
 #[cycle(globals)]
-fn remove_globals(nodes: &[Node], found: &mut Found)
+fn remove_globals(nodes: &[Node], found: &mut NameSet)
     ensures { names_in found.new ≡ names_in found.old ∖ binds true (nodes_of nodes.now) }
 {
     for node in nodes {
@@ -119,7 +119,7 @@ fn remove_globals(nodes: &[Node], found: &mut Found)
 }
 
 #[cycle(globals)]
-fn remove_globals_of(node: &Node, found: &mut Found)
+fn remove_globals_of(node: &Node, found: &mut NameSet)
     ensures { names_in found.new ≡ names_in found.old ∖ node_binds true (node_of node.now) }
 {
     match node {
@@ -154,7 +154,7 @@ fn remove_globals_of(node: &Node, found: &mut Found)
 }
 
 // Takes away what setting this name in the body of a loop binds behind the loop.
-fn remove_if_global(name: &str, is_global: bool, found: &mut Found)
+fn remove_if_global(name: &str, is_global: bool, found: &mut NameSet)
     ensures { names_in found.new ≡ names_in found.old ∖ set_binds true is_global name.now }
 {
     if is_global {

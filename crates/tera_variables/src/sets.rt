@@ -8,7 +8,7 @@ use std::collections::BTreeSet;
 use tera_syntax_tree::Heading;
 
 /// Names that were found.
-pub(crate) type Found = BTreeSet<String>;
+pub(crate) type NameSet = BTreeSet<String>;
 
 /// Puts a name among those that were found.
 pub fn add(alloc: Global, name: &str, found: &mut BTreeSet<String>) -> Result<(), AllocError>
@@ -22,14 +22,14 @@ pub fn add(alloc: Global, name: &str, found: &mut BTreeSet<String>) -> Result<()
 }
 
 /// Takes a name away, if it is there.
-pub fn remove(name: &str, found: &mut Found)
+pub fn remove(name: &str, found: &mut NameSet)
     ensures { names_in found.new ≡ names_in found.old ∖ only name.now }
 {
     found.remove(name);
 }
 
 /// Takes away what a loop calls its items.
-pub fn remove_loop_names(heading: &Heading, found: &mut Found)
+pub fn remove_loop_names(heading: &Heading, found: &mut NameSet)
     ensures { names_in found.new
         ≡ names_in found.old ∖ loop_names (option_copied heading.now.key) heading.now.name.now }
 {
@@ -40,7 +40,7 @@ pub fn remove_loop_names(heading: &Heading, found: &mut Found)
 }
 
 /// Puts these names among those that were found.
-pub fn join(names: Found, found: &mut Found) -> Result<(), AllocError>
+pub fn join(names: NameSet, found: &mut NameSet) -> Result<(), AllocError>
     ensures { OnOk result (names_in found.new ≡ names_in names ∪ names_in found.old) }
 {
     for name in names {

@@ -1,6 +1,6 @@
 // An engine, and each of its calls.
 use super::{is_text, is_true};
-use crate::own::{Bold, Holding, LacksMemory};
+use crate::own::{Bold, AlwaysPasses, RefusesMemory};
 use std::alloc::Global;
 use tera::{Context, Delimiters, Tera, TeraResult, Value};
 
@@ -12,7 +12,7 @@ fn engine(alloc: Global) -> TeraResult<Tera> {
     engine.autoescape_on(&[".html"])?;
     engine.register_filter("bold", Box::new(alloc, Bold)?)?;
     engine.register_function("hello", Box::new(alloc, Bold)?)?;
-    engine.register_test("held", Box::new(alloc, Holding)?)?;
+    engine.register_test("held", Box::new(alloc, AlwaysPasses)?)?;
     engine.add_raw_template("own/page", "{% block b %}{{ n | bold }}{% endblock %}")?;
     engine.add_raw_templates(&[("parts", "{% component C(n) %}[{{ n }}]{% endcomponent %}")])?;
     engine
@@ -79,7 +79,7 @@ fn is_whole(alloc: Global) -> TeraResult<bool> {
         && are_rendered(alloc, &engine)?
         && are_appended(alloc, &engine)?;
     engine.register_from(Tera::new(alloc)?)?;
-    engine.set_escape_fn(Box::new(alloc, LacksMemory)?);
+    engine.set_escape_fn(Box::new(alloc, RefusesMemory)?);
     engine.reset_escape_fn();
     Ok(is_right && are_appended(alloc, &engine)?)
 }

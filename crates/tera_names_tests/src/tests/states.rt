@@ -18,7 +18,7 @@ fn tells(alloc: Global, context: &Context) -> TeraResult<bool> {
         state.autoescaping_enabled()
             && state.escape("<")?.as_str() == "&lt;"
             && state.escape_if_needed(&value)?.as_str() == "&lt;"
-            && name.rendered(&state)?.as_str() == "&lt;"
+            && name.render(&state)?.as_str() == "&lt;"
             && state
                 .call_filter("length", &value, Kwargs::new(alloc))
                 .is_err(),

@@ -79,7 +79,7 @@ fn texts_are_made(rt: HostRuntime) {
 }
 
 /// `{"a": [1, 2, 3], "b": none}`.
-fn nested(alloc: Global) -> TeraResult<Value> {
+fn nested_value(alloc: Global) -> TeraResult<Value> {
     let mut items = Vec::new(alloc);
     items.push(Value::from_int(1))?;
     items.push(Value::from_int(2))?;
@@ -116,7 +116,7 @@ fn is_found(alloc: Global, value: &Value) -> TeraResult<bool> {
 }
 
 fn is_nested(alloc: Global) -> TeraResult<bool> {
-    let value = nested(alloc)?;
+    let value = nested_value(alloc)?;
     is_found(alloc, &value)
 }
 

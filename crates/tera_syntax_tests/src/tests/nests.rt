@@ -1,9 +1,9 @@
 //! Texts in which parts stand in one another, and how deep they may.
-use self::Depth::{Deepest, Read, Refused};
+use self::NestAnswer::{Deepest, Read, Refused};
 
 /// How a text is answered in which parts stand in one another so many times.
 #[derive(Clone, Copy)]
-pub enum Depth {
+pub enum NestAnswer {
     /// It is read, and with one more it is refused.
     Deepest(usize),
     Read(usize),
@@ -12,7 +12,7 @@ pub enum Depth {
 
 /// Five texts, of which the second and the fourth stand many times, and how they are answered.
 #[derive(Clone, Copy)]
-pub struct Nest(pub [&'static str; 5], pub Depth);
+pub struct NestedText(pub [&'static str; 5], pub NestAnswer);
 
 const EMPTY_BLOCK: &str = "{% block b %}{% endblock %}";
 
@@ -103,44 +103,44 @@ const ATTRIBUTES: [&str; 5] = ["{% <X a={", "[", "1", "]", "}> %}{% </X> %}"];
 const INCLUDES: [&str; 5] = ["", "{% set a %}", "{% include 'b' %}", "{% endset %}", ""];
 
 /// Between the standard delimiters.
-pub static NESTS: [Nest; 31] = [
-    Nest(PARENTHESES, Read(20_000)),
-    Nest(OPEN_PARENTHESES, Refused(20_000)),
-    Nest(NOTS, Deepest(198)),
-    Nest(ARRAYS, Deepest(198)),
-    Nest(CHOICES, Deepest(199)),
+pub static NESTS: [NestedText; 31] = [
+    NestedText(PARENTHESES, Read(20_000)),
+    NestedText(OPEN_PARENTHESES, Refused(20_000)),
+    NestedText(NOTS, Deepest(198)),
+    NestedText(ARRAYS, Deepest(198)),
+    NestedText(CHOICES, Deepest(199)),
     // the first condition is an `if`
-    Nest(ELIFS, Deepest(198)),
-    Nest(CONDITIONS, Deepest(198)),
-    Nest(LOOPS, Deepest(199)),
-    Nest(EMPTY_LOOPS, Deepest(199)),
-    Nest(LEFT_LOOPS, Deepest(199)),
-    Nest(CAPTURES, Deepest(199)),
+    NestedText(ELIFS, Deepest(198)),
+    NestedText(CONDITIONS, Deepest(198)),
+    NestedText(LOOPS, Deepest(199)),
+    NestedText(EMPTY_LOOPS, Deepest(199)),
+    NestedText(LEFT_LOOPS, Deepest(199)),
+    NestedText(CAPTURES, Deepest(199)),
     // a statement without an expression may stand at the limit
-    Nest(EMPTY_CAPTURES, Deepest(200)),
-    Nest(EMPTY_BLOCKS, Deepest(199)),
-    Nest(SECTIONS, Deepest(199)),
+    NestedText(EMPTY_CAPTURES, Deepest(200)),
+    NestedText(EMPTY_BLOCKS, Deepest(199)),
+    NestedText(SECTIONS, Deepest(199)),
     // a filter is one deep
-    Nest(EMPTY_SECTIONS, Deepest(199)),
+    NestedText(EMPTY_SECTIONS, Deepest(199)),
     // the name, the filter and the section
-    Nest(SECTION_ARGUMENTS, Deepest(197)),
-    Nest(FILTERED_CAPTURES, Deepest(198)),
-    Nest(SECTION_FILTERS, Read(20_000)),
+    NestedText(SECTION_ARGUMENTS, Deepest(197)),
+    NestedText(FILTERED_CAPTURES, Deepest(198)),
+    NestedText(SECTION_FILTERS, Read(20_000)),
     // the name, the filters and the node
-    Nest(FILTERS, Deepest(198)),
-    Nest(TESTS, Deepest(198)),
+    NestedText(FILTERS, Deepest(198)),
+    NestedText(TESTS, Deepest(198)),
     // each is a test and a `not`
-    Nest(UNTRUE_TESTS, Deepest(99)),
-    Nest(CALLS, Deepest(198)),
-    Nest(ARGUMENTS, Deepest(198)),
-    Nest(COMPONENTS, Deepest(199)),
+    NestedText(UNTRUE_TESTS, Deepest(99)),
+    NestedText(CALLS, Deepest(198)),
+    NestedText(ARGUMENTS, Deepest(198)),
+    NestedText(COMPONENTS, Deepest(199)),
     // a component that is defined is no level
-    Nest(CALLS_IN_COMPONENT, Deepest(199)),
-    Nest(CHOICES_IN_COMPONENT, Deepest(199)),
-    Nest(EMPTY_CAPTURES_IN_COMPONENT, Deepest(200)),
-    Nest(DEFAULTS, Deepest(199)),
+    NestedText(CALLS_IN_COMPONENT, Deepest(199)),
+    NestedText(CHOICES_IN_COMPONENT, Deepest(199)),
+    NestedText(EMPTY_CAPTURES_IN_COMPONENT, Deepest(200)),
+    NestedText(DEFAULTS, Deepest(199)),
     // an attribute is a part of a node
-    Nest(ATTRIBUTES, Deepest(198)),
-    Nest(CHOICES_BEHIND_COMPONENT, Deepest(199)),
-    Nest(INCLUDES, Deepest(199)),
+    NestedText(ATTRIBUTES, Deepest(198)),
+    NestedText(CHOICES_BEHIND_COMPONENT, Deepest(199)),
+    NestedText(INCLUDES, Deepest(199)),
 ];

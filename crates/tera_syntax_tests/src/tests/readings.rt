@@ -5,9 +5,9 @@ ghost use Rattle.tera_syntax_tree.specs.Prelude.{accepted, delimiters_of};
 use super::applications::{APPLICATIONS, UNREAD_APPLICATIONS};
 use super::components::{CALLS, DEFINITIONS, UNREAD_CALLS, UNREAD_DEFINITIONS};
 use super::includes::{INCLUDES, UNREAD_INCLUDES};
-use super::nests::{Depth, NESTS, Nest};
+use super::nests::{NestAnswer, NESTS, NestedText};
 use super::positions::{POSITIONS, Position};
-use super::rows::{OTHERS, Other, REFUSED, Row, TREES, Text, UNUSABLE, Unusable};
+use super::rows::{OTHERS, Other, REFUSED, TreeRow, TREES, RefusedText, UNUSABLE, Unusable};
 use super::sections::{SECTIONS, UNREAD_SECTIONS};
 use super::trees_in_words::Shown;
 use std::alloc::Global;
@@ -15,7 +15,7 @@ use tera_errors::{ErrorKind, Span, TeraResult};
 use tera_syntax::{Delimiters, ParserOutput, parse};
 
 /// The tree of a text between the standard delimiters.
-fn parsed(alloc: Global, text: &str) -> TeraResult<ParserOutput<'_>> {
+fn parse_text(alloc: Global, text: &str) -> TeraResult<ParserOutput<'_>> {
     let delimiters = Delimiters::standard(alloc)?;
     parse(alloc, "t", text, &delimiters)
 }
@@ -33,13 +33,13 @@ fn is_shown(alloc: Global, read: TeraResult<ParserOutput<'_>>, want: &str) -> bo
     shown.is(want)
 }
 
-fn agrees(alloc: Global, row: Row) -> bool {
-    is_shown(alloc, parsed(alloc, row.0), row.1)
+fn agrees(alloc: Global, row: TreeRow) -> bool {
+    is_shown(alloc, parse_text(alloc, row.0), row.1)
 }
 
 /// Whether the text is a syntax error, at a stretch of it.
 fn is_refused(alloc: Global, text: &str) -> bool {
-    match parsed(alloc, text) {
+    match parse_text(alloc, text) {
         Ok(_) => false,
         Err(error) => match error.kind() {
             ErrorKind::SyntaxError(report) => report.span().end <= text.len(),
@@ -51,7 +51,7 @@ fn is_refused(alloc: Global, text: &str) -> bool {
 /// Whether the text is a syntax error that points there and says so.
 fn is_placed(alloc: Global, position: Position) -> bool {
     let Position(text, start, end, words) = position;
-    match parsed(alloc, text) {
+    match parse_text(alloc, text) {
         Ok(_) => false,
         Err(error) => match error.kind() {
             ErrorKind::SyntaxError(report) => {
@@ -90,20 +90,20 @@ fn is_answered(alloc: Global, texts: [&str; 5], count: usize, is_read: bool) -> 
     put_nest(&mut all, texts, count) && is_refused(alloc, all.as_str()) != is_read
 }
 
-fn is_as_deep(alloc: Global, nest: Nest) -> bool {
-    let Nest(texts, depth) = nest;
+fn is_as_deep(alloc: Global, nest: NestedText) -> bool {
+    let NestedText(texts, depth) = nest;
     match depth {
-        Depth::Deepest(count) => {
+        NestAnswer::Deepest(count) => {
             is_answered(alloc, texts, count, true)
                 && is_answered(alloc, texts, count.saturating_add(1), false)
         }
-        Depth::Read(count) => is_answered(alloc, texts, count, true),
-        Depth::Refused(count) => is_answered(alloc, texts, count, false),
+        NestAnswer::Read(count) => is_answered(alloc, texts, count, true),
+        NestAnswer::Refused(count) => is_answered(alloc, texts, count, false),
     }
 }
 
 /// The first text whose tree is another.
-fn first_wrong(alloc: Global, rows: &[Row]) -> Option<&'static str> {
+fn first_wrong(alloc: Global, rows: &[TreeRow]) -> Option<&'static str> {
     for row in rows {
         if !agrees(alloc, *row) {
             return Some(row.0);
@@ -113,7 +113,7 @@ fn first_wrong(alloc: Global, rows: &[Row]) -> Option<&'static str> {
 }
 
 /// The first text that is read though it spells no tree.
-fn first_read(alloc: Global, texts: &[Text]) -> Option<&'static str> {
+fn first_read(alloc: Global, texts: &[RefusedText]) -> Option<&'static str> {
     for text in texts {
         if !is_refused(alloc, text.0) {
             return Some(text.0);
@@ -123,7 +123,7 @@ fn first_read(alloc: Global, texts: &[Text]) -> Option<&'static str> {
 }
 
 /// The first text of these tables that is answered otherwise.
-fn first_other(alloc: Global, tables: &[(&[Row], &[Text])]) -> Option<&'static str> {
+fn first_other(alloc: Global, tables: &[(&[TreeRow], &[RefusedText])]) -> Option<&'static str> {
     for (trees, refused) in tables {
         let other = match first_wrong(alloc, trees) {
             Some(wrong) => Some(wrong),
@@ -139,7 +139,7 @@ fn first_other(alloc: Global, tables: &[(&[Row], &[Text])]) -> Option<&'static s
 #[test]
 fn texts(rt: HostRuntime) {
     let alloc = rt.alloc();
-    let tables: [(&[Row], &[Text]); 6] = [
+    let tables: [(&[TreeRow], &[RefusedText]); 6] = [
         (&TREES, &REFUSED),
         (&SECTIONS, &UNREAD_SECTIONS),
         (&APPLICATIONS, &UNREAD_APPLICATIONS),
@@ -186,7 +186,7 @@ fn put_blocks(alloc: Global, all: &mut String, count: usize) -> bool {
 fn are_told_apart(alloc: Global) -> bool {
     let mut all = String::new(alloc);
     put_blocks(alloc, &mut all, 2_000)
-        && parsed(alloc, all.as_str()).is_ok()
+        && parse_text(alloc, all.as_str()).is_ok()
         && put(&mut all, "{% block block_1999 %}{% endblock %}")
         && is_refused(alloc, all.as_str())
 }
@@ -197,7 +197,7 @@ fn many_blocks(rt: HostRuntime) {
 }
 
 /// Delimiters of which no text is written yet.
-fn unwritten(alloc: Global) -> Delimiters {
+fn empty_delimiters(alloc: Global) -> Delimiters {
     Delimiters {
         block_start: String::new(alloc),
         block_end: String::new(alloc),
@@ -208,7 +208,7 @@ fn unwritten(alloc: Global) -> Delimiters {
     }
 }
 
-fn are_written(delimiters: &mut Delimiters, comment_start: &str, comment_end: &str) -> bool {
+fn write_delimiters(delimiters: &mut Delimiters, comment_start: &str, comment_end: &str) -> bool {
     put(&mut delimiters.block_start, "<%")
         && put(&mut delimiters.block_end, "%>")
         && put(&mut delimiters.variable_start, "<<")
@@ -224,15 +224,15 @@ fn are_usable(alloc: Global, delimiters: &Delimiters) -> bool
 }
 
 fn agrees_by(alloc: Global, other: Other) -> bool {
-    let mut delimiters = unwritten(alloc);
-    are_written(&mut delimiters, other.0, other.1)
+    let mut delimiters = empty_delimiters(alloc);
+    write_delimiters(&mut delimiters, other.0, other.1)
         && are_usable(alloc, &delimiters)
         && is_shown(alloc, parse(alloc, "t", other.2.0, &delimiters), other.2.1)
 }
 
 fn are_refused(alloc: Global, unusable: Unusable) -> bool {
-    let mut delimiters = unwritten(alloc);
-    are_written(&mut delimiters, unusable.0, unusable.1) && !are_usable(alloc, &delimiters)
+    let mut delimiters = empty_delimiters(alloc);
+    write_delimiters(&mut delimiters, unusable.0, unusable.1) && !are_usable(alloc, &delimiters)
 }
 
 #[test]

@@ -2,7 +2,7 @@
 use std::alloc::{AllocError, Global};
 use tera_errors::Span;
 use tera_syntax::{
-    Argument, Block, DefinedComponent, Entry, Expression, Heading, Literal, LiteralKey, Node,
+    Argument, Block, DefinedComponent, EntryExpression, Expression, Heading, Literal, LiteralKey, Node,
     SectionFilter, Signature,
 };
 
@@ -111,7 +111,7 @@ impl Shown {
 
     /// Attributes of a component, each with its name, or the dots of a map that is spread.
     #[cycle(expression)]
-    fn attributes(&mut self, attributes: &[Entry]) {
+    fn attributes(&mut self, attributes: &[EntryExpression]) {
         for attribute in attributes {
             match &attribute.key {
                 Some(LiteralKey::Text(name)) => self.put_named(name.as_str()),

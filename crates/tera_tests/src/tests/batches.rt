@@ -1,5 +1,5 @@
 //! Scripts with templates by name.
-use super::devices::{Sink, Source, run_between};
+use super::devices::{Sink, ScriptSource, run_between};
 use std::alloc::Global;
 use tera_run_script::Outcome::{Done, Unreadable};
 
@@ -254,12 +254,12 @@ const UNREADABLE: &str =
 fn is_answered(alloc: Global, case: &str) -> bool {
     let (script, replies) = case.split_once("\n=>\n").unwrap_or((case, ""));
     let mut sink = Sink::new();
-    run_between(alloc, Source::new(script.as_bytes()), &mut sink) == Some(Done)
-        && sink.written().strip_suffix(b"\n") == Some(replies.as_bytes())
+    run_between(alloc, ScriptSource::new(script.as_bytes()), &mut sink) == Some(Done)
+        && sink.written_bytes().strip_suffix(b"\n") == Some(replies.as_bytes())
 }
 
 /// The first script of these tables that is answered otherwise, with the replies that it should have.
-pub fn wrong(alloc: Global, tables: &[&'static str]) -> Option<&'static str> {
+pub fn wrong_script(alloc: Global, tables: &[&'static str]) -> Option<&'static str> {
     for cases in tables {
         let script = cases.split("\n\n").find(|case| !is_answered(alloc, case));
         if script.is_some() {
@@ -271,13 +271,13 @@ pub fn wrong(alloc: Global, tables: &[&'static str]) -> Option<&'static str> {
 
 fn is_unreadable(alloc: Global, line: &str) -> bool {
     let mut sink = Sink::new();
-    run_between(alloc, Source::new(line.as_bytes()), &mut sink) == Some(Unreadable(1))
-        && sink.written().is_empty()
+    run_between(alloc, ScriptSource::new(line.as_bytes()), &mut sink) == Some(Unreadable(1))
+        && sink.written_bytes().is_empty()
 }
 
 #[test]
 fn batches(rt: HostRuntime) {
-    let script = wrong(rt.alloc(), &[BATCHES, FIELDS]);
+    let script = wrong_script(rt.alloc(), &[BATCHES, FIELDS]);
     assert!(rt; script.is_none(), "at script {script:?}");
 }
 

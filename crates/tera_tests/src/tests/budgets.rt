@@ -8,7 +8,7 @@ use tera::{Context, Error, ErrorKind, Tera, TeraResult};
 
 /// What is rendered.
 #[derive(Clone, Copy)]
-enum Of {
+enum RenderingKind {
     Text,
     Template,
     Component,
@@ -62,56 +62,56 @@ const FILES: [(&str, &str); 6] = [
 ];
 
 /// What takes some thousand million turns.
-const ENDLESS: [(Of, &str); 8] = [
+const ENDLESS: [(RenderingKind, &str); 8] = [
     (
-        Of::Text,
+        RenderingKind::Text,
         "{% for i in range(end=100000) %}{% for j in range(end=100000) %}{% endfor %}{% endfor %}",
     ),
     (
-        Of::Text,
+        RenderingKind::Text,
         "{% for i in range(end=100000) %}{% for j in range(end=100000) %}a{{ j }}{% endfor %}{% endfor %}",
     ),
     (
-        Of::Text,
+        RenderingKind::Text,
         "{% set a = range(end=100000) %}{% for i in a %}{% for j in a %}{% if i > j %}a{% endif %}{% endfor %}{% endfor %}",
     ),
     (
-        Of::Text,
+        RenderingKind::Text,
         "{{ [[i + j for j in range(end=100000)] for i in range(end=100000)] }}",
     ),
     (
-        Of::Text,
+        RenderingKind::Text,
         "{% for i in range(end=100000) %}{% for j in range(end=100000) %}{% include 'base' %}{% endfor %}{% endfor %}",
     ),
     (
-        Of::Text,
+        RenderingKind::Text,
         "{% set x %}{% for i in range(end=100000) %}{% for j in range(end=100000) %}a{% endfor %}{% endfor %}{% endset %}",
     ),
-    (Of::Template, "endless"),
-    (Of::Component, "Endless"),
+    (RenderingKind::Template, "endless"),
+    (RenderingKind::Component, "Endless"),
 ];
 
-fn within(
+fn render_with_budget(
     engine: &Tera,
     context: &Context,
-    of: Of,
+    of: RenderingKind,
     input: &str,
     steps: usize,
 ) -> TeraResult<Option<String>> {
     match of {
-        Of::Text => engine.render_str_within(input, context, true, steps),
-        Of::Template => engine.render_within(input, context, steps),
-        Of::Component => {
+        RenderingKind::Text => engine.render_str_within(input, context, true, steps),
+        RenderingKind::Template => engine.render_within(input, context, steps),
+        RenderingKind::Component => {
             engine.render_component_within(input, context, context, None, true, steps)
         }
     }
 }
 
-fn without(engine: &Tera, context: &Context, of: Of, input: &str) -> TeraResult<String> {
+fn render_without_budget(engine: &Tera, context: &Context, of: RenderingKind, input: &str) -> TeraResult<String> {
     match of {
-        Of::Text => engine.render_str(input, context, true),
-        Of::Template => engine.render(input, context),
-        Of::Component => engine.render_component(input, context, context, None, true),
+        RenderingKind::Text => engine.render_str(input, context, true),
+        RenderingKind::Template => engine.render(input, context),
+        RenderingKind::Component => engine.render_component(input, context, context, None, true),
     }
 }
 
@@ -139,18 +139,18 @@ fn is_same(answer: TeraResult<Option<String>>, other: TeraResult<String>) -> boo
     }
 }
 
-fn is_none(engine: &Tera, context: &Context, of: Of, input: &str, steps: usize) -> bool {
-    matches!(within(engine, context, of, input, steps), Ok(None))
+fn is_none(engine: &Tera, context: &Context, of: RenderingKind, input: &str, steps: usize) -> bool {
+    matches!(render_with_budget(engine, context, of, input, steps), Ok(None))
 }
 
-fn is_some(engine: &Tera, context: &Context, of: Of, input: &str, steps: usize) -> bool {
+fn is_some(engine: &Tera, context: &Context, of: RenderingKind, input: &str, steps: usize) -> bool {
     is_same(
-        within(engine, context, of, input, steps),
-        without(engine, context, of, input),
+        render_with_budget(engine, context, of, input, steps),
+        render_without_budget(engine, context, of, input),
     )
 }
 
-fn is_just_enough(engine: &Tera, context: &Context, of: Of, line: &str) -> bool {
+fn is_just_enough(engine: &Tera, context: &Context, of: RenderingKind, line: &str) -> bool {
     let (steps, input) = line.split_once(' ').unwrap_or((line, ""));
     let Ok(steps) = steps.parse::<usize>() else {
         return false;
@@ -160,16 +160,16 @@ fn is_just_enough(engine: &Tera, context: &Context, of: Of, line: &str) -> bool 
         && (steps == 0 || is_none(engine, context, of, input, steps - 1))
 }
 
-fn are_just_enough(engine: &Tera, context: &Context, of: Of, lines: &str) -> bool {
+fn are_just_enough(engine: &Tera, context: &Context, of: RenderingKind, lines: &str) -> bool {
     lines
         .lines()
         .all(|line| is_just_enough(engine, context, of, line))
 }
 
 fn all_answer(engine: &Tera, context: &Context) -> bool {
-    are_just_enough(engine, context, Of::Text, TEXTS)
-        && are_just_enough(engine, context, Of::Template, TEMPLATES)
-        && are_just_enough(engine, context, Of::Component, COMPONENTS)
+    are_just_enough(engine, context, RenderingKind::Text, TEXTS)
+        && are_just_enough(engine, context, RenderingKind::Template, TEMPLATES)
+        && are_just_enough(engine, context, RenderingKind::Component, COMPONENTS)
 }
 
 fn all_end(engine: &Tera, context: &Context) -> bool {
@@ -185,7 +185,7 @@ fn with_files(alloc: Global) -> TeraResult<Tera> {
 }
 
 /// Whether all answer what they should, and whether all end that would not.
-fn holding(alloc: Global) -> (bool, bool) {
+fn hold_tables(alloc: Global) -> (bool, bool) {
     match (with_files(alloc), variables(alloc)) {
         (Ok(engine), Some(context)) => (all_answer(&engine, &context), all_end(&engine, &context)),
         _ => (false, false),
@@ -194,5 +194,5 @@ fn holding(alloc: Global) -> (bool, bool) {
 
 #[test]
 fn budgets(rt: HostRuntime) {
-    assert!(rt; holding(rt.alloc()) == (true, true));
+    assert!(rt; hold_tables(rt.alloc()) == (true, true));
 }

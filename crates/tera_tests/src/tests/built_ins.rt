@@ -1,5 +1,5 @@
 //! Filters, tests and functions: ordinary values, values of the wrong kind, and each argument absent, wrong and at its bound.
-use super::cases::first_wrong;
+use super::cases::first_wrong_line;
 
 const TEXTS: &str = r#"
 {{ "日本語" | truncate(length=2) }}|{{ "ab" | truncate(length=2) }}|{{ "abc" | truncate(length=2, end="") }} => 日本…|ab|ab
@@ -176,6 +176,6 @@ fn built_ins(rt: HostRuntime) {
         (false, CALLS),
         (true, ESCAPED),
     ];
-    let line = first_wrong(rt.alloc(), &tables);
+    let line = first_wrong_line(rt.alloc(), &tables);
     assert!(rt; line.is_none(), "at line {line:?}");
 }

@@ -1,10 +1,10 @@
 //! Lists of calls, each with a rendering behind it.
 use super::other_delimiters::delimiters;
-use crate::own::{Holding, saying};
+use crate::own::{Holding, word_object};
 use std::alloc::Global;
 use tera::{Context, Tera, TeraResult, Value};
 use tera_calls::{
-    Call, CallOver, EngineRendering, Outcome, Rendering, render_after, render_to_after,
+    Call, CallOver, EngineRendering, CallsOutcome, Rendering, render_after, render_to_after,
 };
 
 fn with_prefixes<'a>(prefixes: &'a [&'a str]) -> Call<'a> {
@@ -28,12 +28,12 @@ fn with_batch<'a>(templates: &'a [(&'a str, &'a str)]) -> Call<'a> {
 }
 
 fn with_filter<'a>(alloc: Global, name: &'a str, word: &'static str) -> TeraResult<Call<'a>> {
-    let filter = Box::new(alloc, saying(alloc, word, false))?;
+    let filter = Box::new(alloc, word_object(alloc, word, false))?;
     Ok(CallOver::RegisterFilter { name, filter })
 }
 
 fn with_function<'a>(alloc: Global, name: &'a str, word: &'static str) -> TeraResult<Call<'a>> {
-    let function = Box::new(alloc, saying(alloc, word, false))?;
+    let function = Box::new(alloc, word_object(alloc, word, false))?;
     Ok(CallOver::RegisterFunction { name, function })
 }
 
@@ -45,8 +45,8 @@ fn with_test<'a>(alloc: Global, name: &'a str) -> TeraResult<Call<'a>> {
 // Registers what another engine has: a filter `said`, which is there already, and one more.
 fn with_those_of_another<'a>(alloc: Global) -> TeraResult<Call<'a>> {
     let mut other = Tera::new(alloc)?;
-    other.register_filter("said", Box::new(alloc, saying(alloc, "other", false))?)?;
-    other.register_filter("more", Box::new(alloc, saying(alloc, "more", false))?)?;
+    other.register_filter("said", Box::new(alloc, word_object(alloc, "other", false))?)?;
+    other.register_filter("more", Box::new(alloc, word_object(alloc, "more", false))?)?;
     Ok(CallOver::RegisterFrom { other })
 }
 
@@ -91,7 +91,7 @@ fn of_component<'a>(
 }
 
 // Whether the rendering gave this text behind thirteen calls, of which the three that must be are refused.
-fn gave(outcome: &Outcome, want: &str) -> bool {
+fn gives_text(outcome: &CallsOutcome, want: &str) -> bool {
     let refused = outcome.answers.iter().filter(|a| a.is_err()).count();
     match &outcome.text {
         Ok(text) => outcome.answers.len() == 13 && refused == 3 && text.as_str() == want,
@@ -151,7 +151,7 @@ fn is_rendered(alloc: Global, call: EngineRendering<'_>, want: &str) -> TeraResu
     let more = render_to_after(alloc, &mut engine, Vec::new(alloc), &call, &mut out)?;
     let behind = format!(in alloc; "> {want}")?;
     let is_appended = more.appended.is_ok() && out.as_slice() == behind.as_bytes();
-    Ok(gave(&outcome, want) && is_appended)
+    Ok(gives_text(&outcome, want) && is_appended)
 }
 
 // A one-off text reads nothing of the engine; the global context that was put in the place of another one is read.
@@ -165,7 +165,7 @@ fn contexts_are_read(alloc: Global) -> TeraResult<bool> {
     let call = of_text("[[ other ]][[ name is defined ]]", &none);
     let rendering = Rendering::ByEngine { call };
     let again = render_after(alloc, &mut engine, calls, &rendering)?;
-    Ok(gave(&outcome, "1") && matches!(&again.text, Ok(text) if text.as_str() == "ofalse"))
+    Ok(gives_text(&outcome, "1") && matches!(&again.text, Ok(text) if text.as_str() == "ofalse"))
 }
 
 fn templates_are_rendered(alloc: Global) -> TeraResult<bool> {

@@ -109,17 +109,17 @@ fn agrees(engine: &Tera, context: &Context, autoescape: bool, line: &str) -> boo
 }
 
 /// The number of the first line that the engine answers otherwise.
-pub fn wrong_by(engine: &Tera, context: &Context, autoescape: bool, lines: &str) -> Option<usize> {
+pub fn wrong_line_number(engine: &Tera, context: &Context, autoescape: bool, lines: &str) -> Option<usize> {
     lines
         .lines()
         .position(|line| !agrees(engine, context, autoescape, line))
 }
 
 /// The first line of the table that is answered otherwise, by an engine of its own.
-pub fn wrong(alloc: Global, autoescape: bool, lines: &'static str) -> Option<&'static str> {
+pub fn wrong_line(alloc: Global, autoescape: bool, lines: &'static str) -> Option<&'static str> {
     match (Tera::new(alloc), variables(alloc)) {
         (Ok(engine), Some(context)) => {
-            let number = wrong_by(&engine, &context, autoescape, lines)?;
+            let number = wrong_line_number(&engine, &context, autoescape, lines)?;
             lines.lines().nth(number)
         }
         _ => Some("no engine"),
@@ -127,9 +127,9 @@ pub fn wrong(alloc: Global, autoescape: bool, lines: &'static str) -> Option<&'s
 }
 
 /// The first line of these tables that is answered otherwise. Beside each table stands whether texts are escaped.
-pub fn first_wrong(alloc: Global, tables: &[(bool, &'static str)]) -> Option<&'static str> {
+pub fn first_wrong_line(alloc: Global, tables: &[(bool, &'static str)]) -> Option<&'static str> {
     for (autoescape, lines) in tables {
-        let line = wrong(alloc, *autoescape, lines);
+        let line = wrong_line(alloc, *autoescape, lines);
         if line.is_some() {
             return line;
         }

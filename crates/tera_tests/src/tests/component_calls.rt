@@ -149,7 +149,7 @@ fn are_named<T, F: Fn(&T, &str) -> bool>(all: &[T], names: &[&str], has_name: F)
             .all(|(one, name)| has_name(one, *name))
 }
 
-fn are(names: &[String], want: &[&str]) -> bool {
+fn are_names(names: &[String], want: &[&str]) -> bool {
     are_named(names, want, |name, want| name.as_str() == want)
 }
 
@@ -184,9 +184,9 @@ fn what_is_told_of_components(rt: HostRuntime) -> TeraResult<()> {
     engine.add_raw_template("c", "{% component A(@a) %}{% endcomponent %}")?;
     let other = engine.get_component_definition("A")?;
     assert!(rt;
-        are(before.as_slice(), &[])
-            && are(alone.as_slice(), &["Button"])
-            && are(more.as_slice(), &["Button", "P", "S"])
+        are_names(before.as_slice(), &[])
+            && are_names(alone.as_slice(), &["Button"])
+            && are_names(more.as_slice(), &["Button", "P", "S"])
             && tells(&told, "Button", &["label", "variant"])
             && tells(&other, "A", &["a"])
             && none.is_none()

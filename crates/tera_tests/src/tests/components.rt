@@ -588,12 +588,12 @@ const REFUSED: &str = r#"{% component W() %}{% block b %}{% endblock %}{% endcom
 #[test]
 fn components(rt: HostRuntime) {
     let tables = [GIVEN, LOOKED_UP, BODIES, DEFINERS, ALONE];
-    let script = batches::wrong(rt.alloc(), &tables);
+    let script = batches::wrong_script(rt.alloc(), &tables);
     assert!(rt; script.is_none(), "at script {script:?}");
 }
 
 #[test]
 fn refused_components(rt: HostRuntime) {
-    let line = cases::wrong(rt.alloc(), true, REFUSED);
+    let line = cases::wrong_line(rt.alloc(), true, REFUSED);
     assert!(rt; line.is_none(), "at line {line:?}");
 }

@@ -1,5 +1,5 @@
 //! Arrays that are made of the items of a value.
-use super::cases::wrong;
+use super::cases::wrong_line;
 
 const CASES: &str = r#"
 {{ [x * 2 for x in [1, 2, 3] if x != 2] }} => [2, 6]
@@ -47,6 +47,6 @@ const CASES: &str = r#"
 
 #[test]
 fn comprehensions(rt: HostRuntime) {
-    let line = wrong(rt.alloc(), true, CASES);
+    let line = wrong_line(rt.alloc(), true, CASES);
     assert!(rt; line.is_none(), "at line {line:?}");
 }

@@ -5,7 +5,7 @@ use tera::{Context, Tera};
 
 /// Five texts, of which the second and the fourth stand so many times.
 #[derive(Clone, Copy)]
-struct Nest([&'static str; 5], usize);
+struct TemplateNest([&'static str; 5], usize);
 
 const CHOICES: [&str; 5] = ["", "{% if name %}", "x", "{% endif %}", ""];
 
@@ -34,21 +34,21 @@ const PARENTHESES: [&str; 5] = ["{{ ", "(", "name", ")", " }}"];
 const OPEN_PARENTHESES: [&str; 5] = ["{{ ", "(", "name", "", " }}"];
 
 /// Nests, and what they render to; none where that is a `SyntaxError`.
-const DEPTHS: [(Nest, Option<&str>); 12] = [
-    (Nest(CHOICES, 199), Some("x")),
-    (Nest(CHOICES, 200), None),
+const DEPTHS: [(TemplateNest, Option<&str>); 12] = [
+    (TemplateNest(CHOICES, 199), Some("x")),
+    (TemplateNest(CHOICES, 200), None),
     // the first condition is an `if`
-    (Nest(CHAINED, 198), Some("x")),
-    (Nest(CHAINED, 199), None),
-    (Nest(LOOPS, 199), Some("x")),
-    (Nest(LOOPS, 200), None),
+    (TemplateNest(CHAINED, 198), Some("x")),
+    (TemplateNest(CHAINED, 199), None),
+    (TemplateNest(LOOPS, 199), Some("x")),
+    (TemplateNest(LOOPS, 200), None),
     // a component is no level itself
-    (Nest(IN_COMPONENT, 199), Some("x")),
-    (Nest(IN_COMPONENT, 200), None),
-    (Nest(NOTS, 198), Some("x")),
-    (Nest(NOTS, 199), None),
-    (Nest(PARENTHESES, 20_000), Some("world")),
-    (Nest(OPEN_PARENTHESES, 20_000), None),
+    (TemplateNest(IN_COMPONENT, 199), Some("x")),
+    (TemplateNest(IN_COMPONENT, 200), None),
+    (TemplateNest(NOTS, 198), Some("x")),
+    (TemplateNest(NOTS, 199), None),
+    (TemplateNest(PARENTHESES, 20_000), Some("world")),
+    (TemplateNest(OPEN_PARENTHESES, 20_000), None),
 ];
 
 fn put_often(all: &mut String, text: &str, count: usize) -> bool {
@@ -60,8 +60,8 @@ fn put_often(all: &mut String, text: &str, count: usize) -> bool {
     true
 }
 
-fn put_nested(all: &mut String, nest: Nest) -> bool {
-    let Nest([start, before, middle, after, end], count) = nest;
+fn put_nested(all: &mut String, nest: TemplateNest) -> bool {
+    let TemplateNest([start, before, middle, after, end], count) = nest;
     put_often(all, start, 1)
         && put_often(all, before, count)
         && put_often(all, middle, 1)
@@ -80,7 +80,7 @@ fn is_nested(
     alloc: Global,
     engine: &Tera,
     context: &Context,
-    nest: Nest,
+    nest: TemplateNest,
     want: Option<&str>,
 ) -> bool {
     let mut text = String::new(alloc);
@@ -88,7 +88,7 @@ fn is_nested(
 }
 
 /// The first row that is answered otherwise. With no engine to render with, that is the first.
-fn wrong(alloc: Global) -> Option<usize> {
+fn wrong_nest(alloc: Global) -> Option<usize> {
     match (Tera::new(alloc), variables(alloc)) {
         (Ok(engine), Some(context)) => DEPTHS.iter().position(|depth| !is_nested(
             alloc, &engine, &context, depth.0, depth.1,
@@ -99,6 +99,6 @@ fn wrong(alloc: Global) -> Option<usize> {
 
 #[test]
 fn depths(rt: HostRuntime) {
-    let row = wrong(rt.alloc());
+    let row = wrong_nest(rt.alloc());
     assert!(rt; row.is_none(), "at row {row:?}");
 }

@@ -7,16 +7,16 @@ use tera_run_script::{Outcome, ReaderInput, WriterOutput, run};
 
 /// Gives a text, a few bytes a read. The first read is interrupted; the one with this number fails.
 #[derive(Clone, Copy)]
-pub struct Source<'a> {
+pub struct ScriptSource<'a> {
     rest: &'a [u8],
     reads: usize,
     fails_at: usize,
 }
 
-impl<'a> Source<'a> {
+impl<'a> ScriptSource<'a> {
     /// A reader that fails at this read.
-    pub fn failing(text: &'a [u8], fails_at: usize) -> Source<'a> {
-        Source {
+    pub fn failing_at(text: &'a [u8], fails_at: usize) -> ScriptSource<'a> {
+        ScriptSource {
             rest: text,
             reads: 0,
             fails_at,
@@ -24,12 +24,12 @@ impl<'a> Source<'a> {
     }
 
     /// A reader that never fails.
-    pub fn new(text: &'a [u8]) -> Source<'a> {
-        Source::failing(text, usize::MAX)
+    pub fn new(text: &'a [u8]) -> ScriptSource<'a> {
+        ScriptSource::failing_at(text, usize::MAX)
     }
 }
 
-impl Read for Source<'_> {
+impl Read for ScriptSource<'_> {
     fn read(&mut self, buffer: &mut [u8]) -> io::Result<usize> {
         self.reads = self.reads.saturating_add(1);
         if self.reads == 1 {
@@ -67,7 +67,7 @@ pub struct Sink {
 
 impl Sink {
     /// A writer that takes so many bytes, up to 128, and fails in this way.
-    pub fn failing(room: usize, failing: Failing) -> Sink {
+    pub fn failing_after(room: usize, failing: Failing) -> Sink {
         Sink {
             bytes: [0; 128],
             used: 0,
@@ -78,11 +78,11 @@ impl Sink {
 
     /// A writer that takes all that the tests write.
     pub fn new() -> Sink {
-        Sink::failing(128, Failing::Writes)
+        Sink::failing_after(128, Failing::Writes)
     }
 
     /// What it took.
-    pub fn written(&self) -> &[u8] {
+    pub fn written_bytes(&self) -> &[u8] {
         &self.bytes[..self.used.min(128)]
     }
 }
@@ -109,7 +109,7 @@ impl Write for Sink {
 }
 
 /// What a run between them comes to.
-pub fn run_on(alloc: Global, engine: &mut Tera, source: Source<'_>, sink: &mut Sink) -> Outcome {
+pub fn run_on(alloc: Global, engine: &mut Tera, source: ScriptSource<'_>, sink: &mut Sink) -> Outcome {
     run(
         alloc,
         &mut ReaderInput::new(source),
@@ -119,7 +119,7 @@ pub fn run_on(alloc: Global, engine: &mut Tera, source: Source<'_>, sink: &mut S
 }
 
 /// What a run between them comes to, on an engine of its own; none where there is no engine.
-pub fn run_between(alloc: Global, source: Source<'_>, sink: &mut Sink) -> Option<Outcome> {
+pub fn run_between(alloc: Global, source: ScriptSource<'_>, sink: &mut Sink) -> Option<Outcome> {
     match Tera::new(alloc) {
         Ok(mut engine) => Some(run_on(alloc, &mut engine, source, sink)),
         Err(_) => None,

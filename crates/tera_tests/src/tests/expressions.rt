@@ -1,5 +1,5 @@
 //! Expressions: what they render to.
-use super::cases::wrong;
+use super::cases::wrong_line;
 
 const CASES: &str = r#"
 {{ 2 ** 10 ~ "x" }} => 1024x
@@ -56,6 +56,6 @@ a {{- 1 -}} b => a1b
 
 #[test]
 fn expressions(rt: HostRuntime) {
-    let line = wrong(rt.alloc(), true, CASES);
+    let line = wrong_line(rt.alloc(), true, CASES);
     assert!(rt; line.is_none(), "at line {line:?}");
 }

@@ -1,5 +1,5 @@
 //! Runs between readers and writers that fail, and what is told of them.
-use super::devices::{Failing, Sink, Source, run_between};
+use super::devices::{Failing, Sink, ScriptSource, run_between};
 use std::alloc::Global;
 use tera_run_script::Outcome::{Device, Done, NoMemory, Unreadable};
 use tera_run_script::{Outcome, WriterOutput, complaint};
@@ -13,21 +13,21 @@ const COMPLAINT: &[u8] = b"unreadable command at line 12\n";
 /// Whether the run ends at this read where it fails, with nothing written.
 fn fails_at_read(alloc: Global, number: usize) -> bool {
     let mut sink = Sink::new();
-    let outcome = run_between(alloc, Source::failing(HELLO, number), &mut sink);
+    let outcome = run_between(alloc, ScriptSource::failing_at(HELLO, number), &mut sink);
     // Its 62 bytes take nine reads, a tenth finds the end, and one was interrupted.
     if number <= 11 {
-        outcome == Some(Device) && sink.written().is_empty()
+        outcome == Some(Device) && sink.written_bytes().is_empty()
     } else {
-        outcome == Some(Done) && sink.written() == REPLIES
+        outcome == Some(Done) && sink.written_bytes() == REPLIES
     }
 }
 
 /// Whether the run ends where the writer's room does.
 fn fails_at_write(alloc: Global, room: usize, failing: Failing) -> bool {
-    let mut sink = Sink::failing(room, failing);
-    run_between(alloc, Source::new(HELLO), &mut sink) == Some(Device)
-        && sink.written().len() == room
-        && REPLIES.starts_with(sink.written())
+    let mut sink = Sink::failing_after(room, failing);
+    run_between(alloc, ScriptSource::new(HELLO), &mut sink) == Some(Device)
+        && sink.written_bytes().len() == room
+        && REPLIES.starts_with(sink.written_bytes())
 }
 
 /// Whether a failed write or flush goes before an unreadable line.
@@ -35,8 +35,8 @@ fn fails_before_unreadable(alloc: Global, room: usize, failing: Failing) -> bool
     let script = b"@@ text x\n@@ end\nhello";
     run_between(
         alloc,
-        Source::new(script),
-        &mut Sink::failing(room, failing),
+        ScriptSource::new(script),
+        &mut Sink::failing_after(room, failing),
     ) == Some(Device)
 }
 
@@ -56,26 +56,26 @@ fn failing_devices(rt: HostRuntime) {
 
 /// What is told of a run, with its exit status.
 #[derive(Clone, Copy)]
-struct Told(Outcome, &'static [u8], u8);
+struct OutcomeRow(Outcome, &'static [u8], u8);
 
-const TOLD: [Told; 4] = [
-    Told(Done, b"", 0),
-    Told(Unreadable(12), COMPLAINT, 2),
-    Told(Device, b"", 3),
-    Told(NoMemory, b"", 4),
+const TOLD: [OutcomeRow; 4] = [
+    OutcomeRow(Done, b"", 0),
+    OutcomeRow(Unreadable(12), COMPLAINT, 2),
+    OutcomeRow(Device, b"", 3),
+    OutcomeRow(NoMemory, b"", 4),
 ];
 
-fn is_told(told: Told, mut sink: Sink) -> bool {
+fn is_told(told: OutcomeRow, mut sink: Sink) -> bool {
     complaint(&told.0, &mut WriterOutput::new(&mut sink));
-    sink.written() == told.1 && told.0.status() == told.2
+    sink.written_bytes() == told.1 && told.0.status() == told.2
 }
 
 #[test]
 fn complaints(rt: HostRuntime) {
-    let part = Told(Unreadable(12), b"unreadab", 2);
+    let part = OutcomeRow(Unreadable(12), b"unreadab", 2);
     assert!(rt;
         TOLD.iter().all(|told| {
-            is_told(*told, Sink::new()) && is_told(*told, Sink::failing(64, Failing::Flushes))
-        }) && is_told(part, Sink::failing(8, Failing::Writes))
+            is_told(*told, Sink::new()) && is_told(*told, Sink::failing_after(64, Failing::Flushes))
+        }) && is_told(part, Sink::failing_after(8, Failing::Writes))
     );
 }

@@ -1,5 +1,5 @@
 //! Faults of expressions, and their positions.
-use super::cases::wrong;
+use super::cases::wrong_line;
 
 const CASES: &str = r#"
 {{ [1]["a":] }} !! 7 10
@@ -63,6 +63,6 @@ const CASES: &str = r#"
 
 #[test]
 fn faults(rt: HostRuntime) {
-    let line = wrong(rt.alloc(), true, CASES);
+    let line = wrong_line(rt.alloc(), true, CASES);
     assert!(rt; line.is_none(), "at line {line:?}");
 }

@@ -1,5 +1,5 @@
 //! Scripts with includes.
-use super::batches::wrong;
+use super::batches::wrong_script;
 
 /// Scripts with their replies, as those of batches. What is included reads its includer, and writes nothing back.
 const INCLUDES: &str = r#"@@ template world
@@ -370,6 +370,6 @@ fault SyntaxError __tera_one_off 33 34"#;
 
 #[test]
 fn includes(rt: HostRuntime) {
-    let script = wrong(rt.alloc(), &[INCLUDES, REFUSED]);
+    let script = wrong_script(rt.alloc(), &[INCLUDES, REFUSED]);
     assert!(rt; script.is_none(), "at script {script:?}");
 }

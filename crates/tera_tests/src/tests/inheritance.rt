@@ -1,5 +1,5 @@
 //! Scripts with blocks: what parents and children put out.
-use super::batches::wrong;
+use super::batches::wrong_script;
 
 /// Scripts with their replies, as those of batches. These put blocks out.
 const BLOCKS: &str = r#"@@ template t
@@ -383,6 +383,6 @@ default"#;
 
 #[test]
 fn inheritance(rt: HostRuntime) {
-    let script = wrong(rt.alloc(), &[BLOCKS, CHILDREN, REFUSED]);
+    let script = wrong_script(rt.alloc(), &[BLOCKS, CHILDREN, REFUSED]);
     assert!(rt; script.is_none(), "at script {script:?}");
 }

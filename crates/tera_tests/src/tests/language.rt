@@ -1,5 +1,5 @@
 //! The examples of docs/LANGUAGE.md, in its order.
-use super::cases::wrong;
+use super::cases::wrong_line;
 
 const CASES: &str = r#"
 Hello {{ name }}! => Hello world!
@@ -67,6 +67,6 @@ a {{- name -}} b => aworldb
 
 #[test]
 fn language(rt: HostRuntime) {
-    let line = wrong(rt.alloc(), false, CASES);
+    let line = wrong_line(rt.alloc(), false, CASES);
     assert!(rt; line.is_none(), "at line {line:?}");
 }

@@ -1,5 +1,5 @@
 //! Loops: their items, their names, and the ways out of them.
-use super::cases::wrong;
+use super::cases::wrong_line;
 
 const CASES: &str = r#"
 {% for x in [1, 2] %}{{ x }}{% endfor %} => 12
@@ -82,6 +82,6 @@ const CASES: &str = r#"
 
 #[test]
 fn loops(rt: HostRuntime) {
-    let line = wrong(rt.alloc(), true, CASES);
+    let line = wrong_line(rt.alloc(), true, CASES);
     assert!(rt; line.is_none(), "at line {line:?}");
 }

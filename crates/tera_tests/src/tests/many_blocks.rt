@@ -18,7 +18,7 @@ fn shows_first(alloc: Global, count: usize, behind: &str, want: &str) -> bool {
 }
 
 /// This text and so many dots behind it.
-fn dotted(alloc: Global, front: &str, count: usize) -> Option<String> {
+fn text_with_dots(alloc: Global, front: &str, count: usize) -> Option<String> {
     let mut text = String::new(alloc);
     if text.push_str(front).is_err() {
         return None;
@@ -32,7 +32,7 @@ fn dotted(alloc: Global, front: &str, count: usize) -> Option<String> {
 }
 
 fn shows_dots(alloc: Global, count: usize) -> bool {
-    match dotted(alloc, "x", count) {
+    match text_with_dots(alloc, "x", count) {
         Some(text) => shows_first(
             alloc,
             count.saturating_add(1),
@@ -50,7 +50,7 @@ fn long_lineages(rt: HostRuntime) {
 }
 
 /// A template with so many blocks, each with its number in it.
-fn many(alloc: Global, count: usize) -> Option<String> {
+fn text_of_blocks(alloc: Global, count: usize) -> Option<String> {
     let mut text = String::new(alloc);
     for number in 0..count {
         if text.push_str("{% block b").is_err()
@@ -65,7 +65,7 @@ fn many(alloc: Global, count: usize) -> Option<String> {
 
 fn is_many_shown(alloc: Global, engine: &mut Tera, count: usize) -> bool {
     let context = Context::new(alloc);
-    match (many(alloc, count), dotted(alloc, "", count)) {
+    match (text_of_blocks(alloc, count), text_with_dots(alloc, "", count)) {
         (Some(text), Some(want)) => {
             adds(engine, "many", text.as_str())
                 && adds(

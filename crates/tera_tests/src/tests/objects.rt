@@ -1,41 +1,41 @@
 //! Filters, tests, functions and escapes of the caller, where they are called.
-use super::cases::{is_text, variables, wrong_by};
-use crate::own::{Asks, LacksMemory, Refusal, Refuses, UsesState, saying};
+use super::cases::{is_text, variables, wrong_line_number};
+use crate::own::{Asks, LacksMemory, RefusalKind, Refuses, UsesState, word_object};
 use std::alloc::Global;
 use tera::{Context, ErrorKind, Kwargs, State, Tera, TeraResult, Value};
 
-fn refusing(alloc: Global, with: Refusal) -> TeraResult<Box<Refuses>> {
+fn refusing_object(alloc: Global, with: RefusalKind) -> TeraResult<Box<Refuses>> {
     Ok(Box::new(alloc, Refuses { alloc, with })?)
 }
 
 fn with_filters(alloc: Global, engine: &mut Tera) -> TeraResult<()> {
-    engine.register_filter("bold", Box::new(alloc, saying(alloc, "<b>x</b>", true))?)?;
-    engine.register_filter("plain", Box::new(alloc, saying(alloc, "<b>x</b>", false))?)?;
-    engine.register_filter("bad", refusing(alloc, Refusal::InvalidArgument)?)?;
-    engine.register_filter("refused", refusing(alloc, Refusal::Message)?)?;
+    engine.register_filter("bold", Box::new(alloc, word_object(alloc, "<b>x</b>", true))?)?;
+    engine.register_filter("plain", Box::new(alloc, word_object(alloc, "<b>x</b>", false))?)?;
+    engine.register_filter("bad", refusing_object(alloc, RefusalKind::InvalidArgument)?)?;
+    engine.register_filter("refused", refusing_object(alloc, RefusalKind::Message)?)?;
     engine.register_filter("trimmed", Box::new(alloc, UsesState { alloc })?)
 }
 
 fn with_functions(alloc: Global, engine: &mut Tera) -> TeraResult<()> {
-    engine.register_function("hello", Box::new(alloc, saying(alloc, "<hello>", true))?)?;
-    engine.register_function("super", Box::new(alloc, saying(alloc, "never", false))?)?;
-    engine.register_function("wrong", refusing(alloc, Refusal::InvalidArgument)?)?;
-    engine.register_function("missing", refusing(alloc, Refusal::MissingArgument)?)?;
-    engine.register_function("refused", refusing(alloc, Refusal::Message)?)?;
-    engine.register_function("absent", refusing(alloc, Refusal::TemplateNotFound)?)?;
+    engine.register_function("hello", Box::new(alloc, word_object(alloc, "<hello>", true))?)?;
+    engine.register_function("super", Box::new(alloc, word_object(alloc, "never", false))?)?;
+    engine.register_function("wrong", refusing_object(alloc, RefusalKind::InvalidArgument)?)?;
+    engine.register_function("missing", refusing_object(alloc, RefusalKind::MissingArgument)?)?;
+    engine.register_function("refused", refusing_object(alloc, RefusalKind::Message)?)?;
+    engine.register_function("absent", refusing_object(alloc, RefusalKind::TemplateNotFound)?)?;
     engine.register_function("esc_if_needed", Box::new(alloc, UsesState { alloc })?)
 }
 
 fn with_tests(alloc: Global, engine: &mut Tera) -> TeraResult<()> {
-    engine.register_test("wrong", refusing(alloc, Refusal::InvalidArgument)?)?;
-    engine.register_test("missing", refusing(alloc, Refusal::MissingArgument)?)
+    engine.register_test("wrong", refusing_object(alloc, RefusalKind::InvalidArgument)?)?;
+    engine.register_test("missing", refusing_object(alloc, RefusalKind::MissingArgument)?)
 }
 
 /// An object of each kind that says that memory was refused.
 fn with_lacking(alloc: Global, engine: &mut Tera) -> TeraResult<()> {
-    engine.register_filter("lacking", refusing(alloc, Refusal::OutOfMemory)?)?;
-    engine.register_function("lacking", refusing(alloc, Refusal::OutOfMemory)?)?;
-    engine.register_test("lacking", refusing(alloc, Refusal::OutOfMemory)?)
+    engine.register_filter("lacking", refusing_object(alloc, RefusalKind::OutOfMemory)?)?;
+    engine.register_function("lacking", refusing_object(alloc, RefusalKind::OutOfMemory)?)?;
+    engine.register_test("lacking", refusing_object(alloc, RefusalKind::OutOfMemory)?)
 }
 
 fn engine(alloc: Global) -> TeraResult<Tera> {
@@ -78,8 +78,8 @@ const CASES: &str = r#"
 
 fn are_answered(engine: &Tera, context: &Context) -> bool {
     CASES.lines().all(|line| {
-        wrong_by(engine, context, true, line).is_none()
-            && wrong_by(engine, context, true, AGAIN).is_none()
+        wrong_line_number(engine, context, true, line).is_none()
+            && wrong_line_number(engine, context, true, AGAIN).is_none()
     })
 }
 
@@ -102,7 +102,7 @@ const UNESCAPED: &str = r#"
 
 fn answers_unescaped(alloc: Global) -> bool {
     match (engine(alloc), variables(alloc)) {
-        (Ok(engine), Some(context)) => wrong_by(&engine, &context, false, UNESCAPED).is_none(),
+        (Ok(engine), Some(context)) => wrong_line_number(&engine, &context, false, UNESCAPED).is_none(),
         _ => false,
     }
 }
@@ -115,10 +115,10 @@ fn objects_answer_where_nothing_is_escaped(rt: HostRuntime) {
 // A name of a built-in that an object takes: states have no filter of that name any more.
 fn takes_names(alloc: Global) -> TeraResult<bool> {
     let mut engine = engine(alloc)?;
-    engine.register_filter("trim", Box::new(alloc, saying(alloc, "own", false))?)?;
+    engine.register_filter("trim", Box::new(alloc, word_object(alloc, "own", false))?)?;
     let context = Context::new(alloc);
     let lines = "{{ ' a ' | trim }} => own\n{{ ' a ' | trimmed }} !! 3 18\n{{ 'a' | escape }} => a";
-    Ok(wrong_by(&engine, &context, true, lines).is_none())
+    Ok(wrong_line_number(&engine, &context, true, lines).is_none())
 }
 
 #[test]
@@ -196,7 +196,7 @@ fn escapes(alloc: Global) -> TeraResult<bool> {
     engine.register_function("written", Box::new(alloc, UsesState { alloc })?)?;
     let lines =
         "{{ content | escape }} => Hello ter?\n{{ written(text=content) | safe }} => Hello ter?";
-    let used = wrong_by(&engine, &context, true, lines).is_none();
+    let used = wrong_line_number(&engine, &context, true, lines).is_none();
     engine.set_escape_fn(Box::new(alloc, LacksMemory)?);
     let lacking = lacks(engine.render("hello.js", &context));
     let kept = is_text(engine.render_str("{{ 'a' | safe }}", &context, true), "a");

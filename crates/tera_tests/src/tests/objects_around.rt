@@ -1,5 +1,5 @@
 //! What an object sees where it is called: the scope of that position.
-use super::cases::wrong_by;
+use super::cases::wrong_line_number;
 use super::templates::shows;
 use crate::own::Shows;
 use std::alloc::Global;
@@ -61,7 +61,7 @@ fn sees(alloc: Global) -> TeraResult<bool> {
     engine.register_filter("show", Box::new(alloc, Shows { alloc })?)?;
     engine.register_test("shown", Box::new(alloc, Shows { alloc })?)?;
     engine.add_raw_templates(TEMPLATES)?;
-    let are_rows = wrong_by(&engine, &context, true, CASES).is_none();
+    let are_rows = wrong_line_number(&engine, &context, true, CASES).is_none();
     Ok(
         is_refused
             && are_rows

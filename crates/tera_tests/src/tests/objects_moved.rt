@@ -1,27 +1,27 @@
 //! Objects that take the place of others, and that are moved from one engine to another.
-use super::cases::wrong_by;
-use crate::own::{Holding, Holds, saying};
+use super::cases::wrong_line_number;
+use crate::own::{Holding, Holds, word_object};
 use std::alloc::Global;
 use std::rc::RcStr;
 use tera::{Context, Tera, TeraResult};
 
 /// An engine with a filter and a function `f`.
-pub fn first(alloc: Global) -> TeraResult<Tera> {
+pub fn first_engine(alloc: Global) -> TeraResult<Tera> {
     let mut engine = Tera::new(alloc)?;
-    engine.register_filter("f", Box::new(alloc, saying(alloc, "f1", false))?)?;
-    engine.register_function("f", Box::new(alloc, saying(alloc, "f1", false))?)?;
+    engine.register_filter("f", Box::new(alloc, word_object(alloc, "f1", false))?)?;
+    engine.register_function("f", Box::new(alloc, word_object(alloc, "f1", false))?)?;
     Ok(engine)
 }
 
 /// An engine with a filter `g`, a test `held` and a function `h` besides, and with objects by names of built-ins.
-pub fn second(alloc: Global) -> TeraResult<Tera> {
+pub fn second_engine(alloc: Global) -> TeraResult<Tera> {
     let mut engine = Tera::new(alloc)?;
-    engine.register_filter("f", Box::new(alloc, saying(alloc, "f2", false))?)?;
-    engine.register_filter("g", Box::new(alloc, saying(alloc, "g2", false))?)?;
-    engine.register_filter("trim", Box::new(alloc, saying(alloc, "own", false))?)?;
-    engine.register_function("f", Box::new(alloc, saying(alloc, "f2", false))?)?;
-    engine.register_function("h", Box::new(alloc, saying(alloc, "h2", false))?)?;
-    engine.register_function("range", Box::new(alloc, saying(alloc, "own", false))?)?;
+    engine.register_filter("f", Box::new(alloc, word_object(alloc, "f2", false))?)?;
+    engine.register_filter("g", Box::new(alloc, word_object(alloc, "g2", false))?)?;
+    engine.register_filter("trim", Box::new(alloc, word_object(alloc, "own", false))?)?;
+    engine.register_function("f", Box::new(alloc, word_object(alloc, "f2", false))?)?;
+    engine.register_function("h", Box::new(alloc, word_object(alloc, "h2", false))?)?;
+    engine.register_function("range", Box::new(alloc, word_object(alloc, "own", false))?)?;
     engine.register_test("held", Box::new(alloc, Holding)?)?;
     engine.register_test("odd", Box::new(alloc, Holding)?)?;
     Ok(engine)
@@ -36,10 +36,10 @@ const MOVED: &str = r#"
 "#;
 
 fn is_moved(alloc: Global) -> TeraResult<bool> {
-    let mut engine = first(alloc)?;
-    engine.register_from(second(alloc)?)?;
+    let mut engine = first_engine(alloc)?;
+    engine.register_from(second_engine(alloc)?)?;
     let context = Context::new(alloc);
-    Ok(wrong_by(&engine, &context, false, MOVED).is_none())
+    Ok(wrong_line_number(&engine, &context, false, MOVED).is_none())
 }
 
 #[test]

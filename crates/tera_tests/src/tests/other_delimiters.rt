@@ -22,7 +22,7 @@ pub fn delimiters(
 }
 
 /// `<% %>`, `<< >>` and `<# #>`, or with another end of statements and another start of comments.
-fn angled(alloc: Global, block_end: &str, comment_start: &str) -> TeraResult<Delimiters> {
+fn angle_delimiters(alloc: Global, block_end: &str, comment_start: &str) -> TeraResult<Delimiters> {
     delimiters(
         alloc,
         ("<%", block_end),
@@ -38,13 +38,13 @@ fn is_obeyed(alloc: Global) -> TeraResult<bool> {
     let mut context = Context::new(alloc);
     context.insert("name", Value::from_int(7))?;
     let mut engine = Tera::new(alloc)?;
-    let is_empty_refused = is_refused(engine.set_delimiters(angled(alloc, "", "<#")?), "Message");
+    let is_empty_refused = is_refused(engine.set_delimiters(angle_delimiters(alloc, "", "<#")?), "Message");
     let are_equal_refused = is_refused(
-        engine.set_delimiters(angled(alloc, "%>", "<<")?),
+        engine.set_delimiters(angle_delimiters(alloc, "%>", "<<")?),
         "Message",
     );
     let is_as_before = renders(&engine, &context, true, own, "Hello 7!<< name >>");
-    engine.set_delimiters(angled(alloc, "%>", "<#")?)?;
+    engine.set_delimiters(angle_delimiters(alloc, "%>", "<#")?)?;
     Ok(
         is_empty_refused
             && are_equal_refused

@@ -78,6 +78,6 @@ fault RenderingError d 34 35"#;
 
 #[test]
 fn previews(rt: HostRuntime) {
-    let script = batches::wrong(rt.alloc(), &[PREVIEWS]);
+    let script = batches::wrong_script(rt.alloc(), &[PREVIEWS]);
     assert!(rt; script.is_none(), "at script {script:?}");
 }

@@ -1,8 +1,8 @@
 //! Objects that are registered and moved where memory is refused, at the first request, at the second one, and so on.
-use super::cases::wrong_by;
-use super::objects_moved::{first, holds, second};
-use super::tried::{answered, refused};
-use crate::own::{Asks, Holding, saying};
+use super::cases::wrong_line_number;
+use super::objects_moved::{first_engine, holds, second_engine};
+use super::tried::{answered_if, refused_if};
+use crate::own::{Asks, Holding, word_object};
 use scarce_memory::{Tried, refusals, with_budget, with_little};
 use std::alloc::Global;
 use std::rc::RcStr;
@@ -10,7 +10,7 @@ use tera::{Context, Tera, TeraResult, Value};
 
 /// What is asked of the engine.
 #[derive(Clone, Copy)]
-enum Case {
+enum RegisteringCase {
     Moves,
     Puts,
 }
@@ -25,59 +25,59 @@ const ABSENT: &str = "{{ 1 | g }} !! message\n{{ 1 is held }} !! message\n{{ h()
 const KEPT: &str = "{{ 1 | f }}{{ f() }} => f1f1\n{{ ' a ' | trim }}{{ 2 is odd }} => afalse";
 
 fn keeps(engine: &Tera, context: &Context) -> bool {
-    wrong_by(engine, context, false, KEPT).is_none()
+    wrong_line_number(engine, context, false, KEPT).is_none()
 }
 
 fn has_all(engine: &Tera, context: &Context) -> bool {
-    keeps(engine, context) && wrong_by(engine, context, false, MOVED).is_none()
+    keeps(engine, context) && wrong_line_number(engine, context, false, MOVED).is_none()
 }
 
 /// Whether the first objects are there, and none behind them.
 fn has_the_first(engine: &Tera, context: &Context) -> bool {
-    match wrong_by(engine, context, false, MOVED) {
+    match wrong_line_number(engine, context, false, MOVED) {
         Some(count) => {
             keeps(engine, context)
                 && ABSENT
                     .lines()
                     .skip(count)
-                    .all(|line| wrong_by(engine, context, false, line).is_none())
+                    .all(|line| wrong_line_number(engine, context, false, line).is_none())
         }
         None => false,
     }
 }
 
 fn is_completed(alloc: Global, engine: &mut Tera, context: &Context) -> bool {
-    match second(alloc) {
+    match second_engine(alloc) {
         Ok(other) => engine.register_from(other).is_ok() && has_all(engine, context),
         Err(_) => false,
     }
 }
 
-fn judged(
+fn judge(
     alloc: Global,
     engine: &mut Tera,
     context: &Context,
     ended: Option<TeraResult<()>>,
 ) -> Tried {
     match ended {
-        Some(Ok(())) => answered(has_all(engine, context)),
+        Some(Ok(())) => answered_if(has_all(engine, context)),
         Some(Err(error)) => {
             let is_right = has_the_first(engine, context) && is_completed(alloc, engine, context);
-            refused(&error, is_right)
+            refused_if(&error, is_right)
         }
         None => Tried::Wrong,
     }
 }
 
 fn moves(alloc: Global, engine: &mut Tera, budget: usize) -> Option<TeraResult<()>> {
-    let other = second(alloc).ok()?;
+    let other = second_engine(alloc).ok()?;
     with_budget(alloc, budget, || engine.register_from(other))
 }
 
 fn registers(alloc: Global, engine: &mut Tera, budget: usize) -> Option<TeraResult<()>> {
-    let filter = Box::new(alloc, saying(alloc, "g2", false)).ok()?;
+    let filter = Box::new(alloc, word_object(alloc, "g2", false)).ok()?;
     let test = Box::new(alloc, Holding).ok()?;
-    let function = Box::new(alloc, saying(alloc, "h2", false)).ok()?;
+    let function = Box::new(alloc, word_object(alloc, "h2", false)).ok()?;
     with_budget(alloc, budget, || {
         engine.register_filter("g", filter)?;
         engine.register_test("held", test)?;
@@ -85,16 +85,16 @@ fn registers(alloc: Global, engine: &mut Tera, budget: usize) -> Option<TeraResu
     })
 }
 
-fn try_on(alloc: Global, engine: &mut Tera, case: Case, budget: usize) -> Tried {
+fn try_on(alloc: Global, engine: &mut Tera, case: RegisteringCase, budget: usize) -> Tried {
     let ended = match case {
-        Case::Moves => moves(alloc, engine, budget),
-        Case::Puts => registers(alloc, engine, budget),
+        RegisteringCase::Moves => moves(alloc, engine, budget),
+        RegisteringCase::Puts => registers(alloc, engine, budget),
     };
-    judged(alloc, engine, &Context::new(alloc), ended)
+    judge(alloc, engine, &Context::new(alloc), ended)
 }
 
-fn tries(alloc: Global, case: Case, budget: usize) -> Tried {
-    match first(alloc) {
+fn tries(alloc: Global, case: RegisteringCase, budget: usize) -> Tried {
+    match first_engine(alloc) {
         Ok(mut engine) => try_on(alloc, &mut engine, case, budget),
         Err(_) => Tried::Wrong,
     }
@@ -103,12 +103,12 @@ fn tries(alloc: Global, case: Case, budget: usize) -> Tried {
 // What is moved may lie where the other engine's tables lay, so that a move can do without further memory.
 #[test]
 fn moves_are_refused_in_turn(rt: HostRuntime) {
-    assert!(rt; refusals(rt.alloc(), |budget| tries(rt.alloc(), Case::Moves, budget)).is_some());
+    assert!(rt; refusals(rt.alloc(), |budget| tries(rt.alloc(), RegisteringCase::Moves, budget)).is_some());
 }
 
 #[test]
 fn registering_is_refused_in_turn(rt: HostRuntime) {
-    assert!(rt; refusals(rt.alloc(), |budget| tries(rt.alloc(), Case::Puts, budget)) > Some(0));
+    assert!(rt; refusals(rt.alloc(), |budget| tries(rt.alloc(), RegisteringCase::Puts, budget)) > Some(0));
 }
 
 fn escapes_without_memory(alloc: Global) -> TeraResult<bool> {
@@ -121,12 +121,12 @@ fn escapes_without_memory(alloc: Global) -> TeraResult<bool> {
         || with_budget(alloc, 0, || engine.set_escape_fn(escape)),
     )
     .is_some();
-    let asks = wrong_by(&engine, &context, true, "{{ name }} => <?>").is_none();
+    let asks = wrong_line_number(&engine, &context, true, "{{ name }} => <?>").is_none();
     let is_reset = with_little(
         alloc,
         || with_budget(alloc, 0, || engine.reset_escape_fn()),
     ).is_some();
-    let escapes = wrong_by(&engine, &context, true, "{{ name }} => &lt;a&gt;").is_none();
+    let escapes = wrong_line_number(&engine, &context, true, "{{ name }} => &lt;a&gt;").is_none();
     Ok(is_set && asks && is_reset && escapes)
 }
 
@@ -200,8 +200,8 @@ fn try_holder(alloc: Global, held: &RcStr, way: Way, budget: usize) -> Tried {
     drop(engine);
     let all_dropped = RcStr::strong_count(held) == before;
     match ended {
-        Some(Ok(())) => answered(is_right && all_dropped && many > 0),
-        Some(Err(error)) => refused(&error, is_right && all_dropped),
+        Some(Ok(())) => answered_if(is_right && all_dropped && many > 0),
+        Some(Err(error)) => refused_if(&error, is_right && all_dropped),
         None => Tried::Wrong,
     }
 }

@@ -1,6 +1,6 @@
 //! Renderings to which memory is refused, at their first request, at their second one, and so on.
 use super::cases::put;
-use super::tried::{answered, refused};
+use super::tried::{answered_if, refused_if};
 use scarce_memory::{Tried, refusals, with_budget};
 use std::alloc::Global;
 use tera::{Context, Tera, Value};
@@ -13,8 +13,8 @@ const BEFORE: &[u8] = b"before ";
 
 fn try_rendering(alloc: Global, engine: &Tera, context: &Context, budget: usize) -> Tried {
     match with_budget(alloc, budget, || engine.render_str(INPUT, context, true)) {
-        Some(Ok(text)) => answered(text.as_str() == WANT),
-        Some(Err(error)) => refused(&error, true),
+        Some(Ok(text)) => answered_if(text.as_str() == WANT),
+        Some(Err(error)) => refused_if(&error, true),
         None => Tried::Wrong,
     }
 }
@@ -31,8 +31,8 @@ fn try_appending_to(
         budget,
         || engine.render_str_to(INPUT, context, true, out),
     ) {
-        Some(Ok(())) => answered(out.strip_prefix(BEFORE) == Some(WANT.as_bytes())),
-        Some(Err(error)) => refused(&error, out.as_slice() == BEFORE),
+        Some(Ok(())) => answered_if(out.strip_prefix(BEFORE) == Some(WANT.as_bytes())),
+        Some(Err(error)) => refused_if(&error, out.as_slice() == BEFORE),
         None => Tried::Wrong,
     }
 }

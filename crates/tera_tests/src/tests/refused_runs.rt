@@ -1,5 +1,5 @@
 //! Runs of the program to which memory is refused, at their first request, at their second one, and so on.
-use super::devices::{Sink, Source, run_on};
+use super::devices::{Sink, ScriptSource, run_on};
 use scarce_memory::{Tried, refusals, with_budget};
 use std::alloc::Global;
 use tera::Tera;
@@ -7,7 +7,7 @@ use tera_run_script::Outcome;
 
 /// A script that is run.
 #[derive(Clone, Copy)]
-enum Case {
+enum RunCase {
     Texts,
     Templates,
 }
@@ -34,21 +34,21 @@ const FAULTS_OF_TEMPLATES: [&[u8]; 7] = [
     b"fault OutOfMemory\nfault OutOfMemory\nfault TemplateNotFound\n",
 ];
 
-fn is_answered(case: Case, written: &[u8]) -> bool {
+fn is_answered(case: RunCase, written: &[u8]) -> bool {
     match case {
-        Case::Texts => written == b"ok\nHello &lt;world&gt;!\n".as_slice(),
-        Case::Templates => written == b"ok\nok\nA\n".as_slice(),
+        RunCase::Texts => written == b"ok\nHello &lt;world&gt;!\n".as_slice(),
+        RunCase::Templates => written == b"ok\nok\nA\n".as_slice(),
     }
 }
 
-fn is_refused(case: Case, written: &[u8]) -> bool {
+fn is_refused(case: RunCase, written: &[u8]) -> bool {
     match case {
-        Case::Texts => FAULTS_OF_TEXTS.iter().any(|faults| written == *faults),
-        Case::Templates => FAULTS_OF_TEMPLATES.iter().any(|faults| written == *faults),
+        RunCase::Texts => FAULTS_OF_TEXTS.iter().any(|faults| written == *faults),
+        RunCase::Templates => FAULTS_OF_TEMPLATES.iter().any(|faults| written == *faults),
     }
 }
 
-fn judged(case: Case, outcome: Option<Outcome>, written: &[u8]) -> Tried {
+fn judge(case: RunCase, outcome: Option<Outcome>, written: &[u8]) -> Tried {
     match outcome {
         Some(Outcome::Done) if is_answered(case, written) => Tried::Answered,
         Some(Outcome::Done) if is_refused(case, written) => Tried::Refused,
@@ -57,17 +57,17 @@ fn judged(case: Case, outcome: Option<Outcome>, written: &[u8]) -> Tried {
     }
 }
 
-fn try_running_on(alloc: Global, engine: &mut Tera, case: Case, budget: usize) -> Tried {
+fn try_running_on(alloc: Global, engine: &mut Tera, case: RunCase, budget: usize) -> Tried {
     let mut sink = Sink::new();
     let source = match case {
-        Case::Texts => Source::new(TEXTS),
-        Case::Templates => Source::new(TEMPLATES),
+        RunCase::Texts => ScriptSource::new(TEXTS),
+        RunCase::Templates => ScriptSource::new(TEMPLATES),
     };
     let outcome = with_budget(alloc, budget, || run_on(alloc, engine, source, &mut sink));
-    judged(case, outcome, sink.written())
+    judge(case, outcome, sink.written_bytes())
 }
 
-fn try_running(alloc: Global, case: Case, budget: usize) -> Tried {
+fn try_running(alloc: Global, case: RunCase, budget: usize) -> Tried {
     match Tera::new(alloc) {
         Ok(mut engine) => try_running_on(alloc, &mut engine, case, budget),
         Err(_) => Tried::Wrong,
@@ -79,11 +79,11 @@ fn runs_are_refused_in_turn(rt: HostRuntime) {
     assert!(rt;
         refusals(
             rt.alloc(),
-            |budget| try_running(rt.alloc(), Case::Texts, budget)
+            |budget| try_running(rt.alloc(), RunCase::Texts, budget)
         ) > Some(0)
             && refusals(
                 rt.alloc(),
-                |budget| try_running(rt.alloc(), Case::Templates, budget)
+                |budget| try_running(rt.alloc(), RunCase::Templates, budget)
             ) > Some(0)
     );
 }

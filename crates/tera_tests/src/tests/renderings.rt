@@ -1,5 +1,5 @@
 //! Texts that stand beside the registry: what they render to, what is appended, and where they are refused.
-use super::cases::{first_wrong, is_refused, variables};
+use super::cases::{first_wrong_line, is_refused, variables};
 use std::alloc::Global;
 use tera::{Context, Tera};
 
@@ -88,7 +88,7 @@ fn renders_alone(alloc: Global) -> bool {
 
 #[test]
 fn renderings(rt: HostRuntime) {
-    let line = first_wrong(rt.alloc(), &[(true, ESCAPED), (false, PLAIN)]);
+    let line = first_wrong_line(rt.alloc(), &[(true, ESCAPED), (false, PLAIN)]);
     assert!(rt; line.is_none(), "at line {line:?}");
     assert!(rt;
         are_appended(rt.alloc(), true, ESCAPED)

@@ -1,7 +1,7 @@
 //! A template that is replaced again and again: what stood there before leaves nothing behind.
 use super::many_templates::put_number;
 use super::templates::{adds, shows};
-use scarce_memory::{left, with_room};
+use scarce_memory::{bytes_left, with_room};
 use std::alloc::Global;
 use tera::{Context, Tera};
 
@@ -52,32 +52,32 @@ fn shows_all(
 }
 
 /// How many bytes are left without a template, with its first text, and with its 200th.
-fn lefts(
+fn bytes_left_after(
     alloc: Global,
     engine: &mut Tera,
     context: &Context,
     pieces: &mut Vec<Vec<u8>>,
 ) -> Option<(usize, usize, usize)> {
-    let before = left(alloc, pieces);
+    let before = bytes_left(alloc, pieces);
     if !shows_all(alloc, engine, context, 100, 101) {
         return None;
     }
-    let first = left(alloc, pieces);
+    let first = bytes_left(alloc, pieces);
     if !shows_all(alloc, engine, context, 101, 300) {
         return None;
     }
-    Some((before, first, left(alloc, pieces)))
+    Some((before, first, bytes_left(alloc, pieces)))
 }
 
-fn lefts_in_room(alloc: Global, engine: &mut Tera) -> Option<(usize, usize, usize)> {
+fn bytes_left_in_room(alloc: Global, engine: &mut Tera) -> Option<(usize, usize, usize)> {
     let context = Context::new(alloc);
     let mut pieces = Vec::with_capacity(alloc, 20_000).ok()?;
-    with_room(alloc, ROOM, || lefts(alloc, engine, &context, &mut pieces))?
+    with_room(alloc, ROOM, || bytes_left_after(alloc, engine, &context, &mut pieces))?
 }
 
-fn measured(alloc: Global) -> Option<(usize, usize, usize)> {
+fn measure(alloc: Global) -> Option<(usize, usize, usize)> {
     let mut engine = Tera::new(alloc).ok()?;
-    lefts_in_room(alloc, &mut engine)
+    bytes_left_in_room(alloc, &mut engine)
 }
 
 /// Whether the 200th text takes up what the first one did, within a tenth.
@@ -93,6 +93,6 @@ fn is_steady(lefts: Option<(usize, usize, usize)>) -> bool {
 
 #[test]
 fn replaced_templates_leave_nothing(rt: HostRuntime) {
-    let lefts = measured(rt.alloc());
+    let lefts = measure(rt.alloc());
     assert!(rt; is_steady(lefts), "left: {lefts:?}");
 }

@@ -17,12 +17,12 @@ fn context(alloc: Global) -> TeraResult<Context> {
     let mut user = Map::new(alloc);
     put(&mut user, alloc, "name", Value::string(alloc, "Ada")?)?;
     put(&mut user, alloc, "age", Value::from_int(36))?;
-    let user = Value::map(user).shared(alloc)?;
+    let user = Value::map(user).into_shared(alloc)?;
     let mut users = Vec::new(alloc);
     users.push(user.try_clone()?)?;
     let mut context = Context::new(alloc);
     context.insert("user", user)?;
-    context.insert("users", Value::array(users).shared(alloc)?)?;
+    context.insert("users", Value::array(users).into_shared(alloc)?)?;
     context.insert("title", Value::string(alloc, "Home")?)?;
     context.insert("count", Value::from_int(3))?;
     context.insert("nothing", Value::none())?;
@@ -81,7 +81,7 @@ fn is_told(alloc: Global, case: &str) -> bool {
 }
 
 // The first case that is told otherwise.
-fn wrong(alloc: Global, cases: &'static str) -> Option<&'static str> {
+fn wrong_case(alloc: Global, cases: &'static str) -> Option<&'static str> {
     cases
         .split("====\n")
         .skip(1)
@@ -90,18 +90,18 @@ fn wrong(alloc: Global, cases: &'static str) -> Option<&'static str> {
 
 #[test]
 fn reports_values(rt: HostRuntime) {
-    let case = wrong(rt.alloc(), reports_of_values::CASES);
+    let case = wrong_case(rt.alloc(), reports_of_values::CASES);
     assert!(rt; case.is_none(), "in the case {case:?}");
 }
 
 #[test]
 fn reports_templates(rt: HostRuntime) {
-    let case = wrong(rt.alloc(), reports_of_templates::CASES);
+    let case = wrong_case(rt.alloc(), reports_of_templates::CASES);
     assert!(rt; case.is_none(), "in the case {case:?}");
 }
 
 #[test]
 fn reports_reading(rt: HostRuntime) {
-    let case = wrong(rt.alloc(), reports_of_reading::CASES);
+    let case = wrong_case(rt.alloc(), reports_of_reading::CASES);
     assert!(rt; case.is_none(), "in the case {case:?}");
 }

@@ -2,7 +2,7 @@
 use std::alloc::Global;
 use tera::{Context, Value};
 use tera_state::{ForLoop, Scopes};
-use tera_values::{Kwargs, Name, Sought};
+use tera_values::{Kwargs, Name, NameRef};
 
 fn name(alloc: Global, text: &str) -> Option<Name> {
     Name::new(alloc, text).ok()
@@ -24,7 +24,7 @@ fn sets_global(alloc: Global, scopes: &mut Scopes<'_>, text: &str, number: i128)
 
 /// Whether the name stands for this number, or for nothing.
 fn finds(alloc: Global, scopes: &Scopes<'_>, text: &str, want: Option<i128>) -> bool {
-    match scopes.look(&Sought::new(text)).to_value(alloc) {
+    match scopes.look(&NameRef::new(text)).to_value(alloc) {
         Ok(value) => value.as_i128() == want,
         Err(_) => false,
     }
@@ -33,7 +33,7 @@ fn finds(alloc: Global, scopes: &Scopes<'_>, text: &str, want: Option<i128>) -> 
 fn numbers(alloc: Global) -> Option<Value> {
     let mut items = Vec::new(alloc);
     if items.push(Value::from_int(5)).is_ok() && items.push(Value::from_int(6)).is_ok() {
-        Value::array(items).shared(alloc).ok()
+        Value::array(items).into_shared(alloc).ok()
     } else {
         None
     }
@@ -81,7 +81,7 @@ fn turns_forget_what_was_set(rt: HostRuntime) {
     assert!(rt; holds);
 }
 
-fn included(alloc: Global, scopes: &mut Scopes<'_>) -> bool {
+fn enters_include(alloc: Global, scopes: &mut Scopes<'_>) -> bool {
     sets(alloc, scopes, "a", 1)
         && scopes.enter_include().is_ok()
         && finds(alloc, scopes, "a", Some(1))
@@ -89,7 +89,7 @@ fn included(alloc: Global, scopes: &mut Scopes<'_>) -> bool {
         && finds(alloc, scopes, "a", Some(2))
 }
 
-fn called(alloc: Global, scopes: &mut Scopes<'_>) -> bool {
+fn enters_component(alloc: Global, scopes: &mut Scopes<'_>) -> bool {
     sets(alloc, scopes, "a", 2)
         && scopes.enter_component(Kwargs::new(alloc)).is_ok()
         && finds(alloc, scopes, "a", None)
@@ -97,7 +97,7 @@ fn called(alloc: Global, scopes: &mut Scopes<'_>) -> bool {
 }
 
 fn finds_above(alloc: Global, scopes: &Scopes<'_>, text: &str, want: Option<i128>) -> bool {
-    match scopes.look_implicit(&Sought::new(text)).to_value(alloc) {
+    match scopes.look_implicit(&NameRef::new(text)).to_value(alloc) {
         Ok(value) => value.as_i128() == want,
         Err(_) => false,
     }
@@ -108,7 +108,7 @@ fn what_an_include_sets_ends_with_it(rt: HostRuntime) {
     let alloc = rt.alloc();
     let context = Context::new(alloc);
     let mut scopes = Scopes::new(alloc, &context, None);
-    let inside = included(alloc, &mut scopes);
+    let inside = enters_include(alloc, &mut scopes);
     if scopes.below.len() > 0 {
         scopes.leave();
     }
@@ -121,5 +121,5 @@ fn a_component_asks_above_for_implicit_names(rt: HostRuntime) {
     let alloc = rt.alloc();
     let context = Context::new(alloc);
     let mut scopes = Scopes::new(alloc, &context, None);
-    assert!(rt; called(alloc, &mut scopes));
+    assert!(rt; enters_component(alloc, &mut scopes));
 }

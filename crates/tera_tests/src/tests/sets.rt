@@ -1,5 +1,5 @@
 //! What is set, what is captured, and where it is visible.
-use super::cases::wrong;
+use super::cases::wrong_line;
 
 const CASES: &str = r#"
 {% set n = 0 %}{% for x in [1, 2] %}{% set n = x %}{{ n }}{% endfor %}{{ n }} => 120
@@ -79,12 +79,12 @@ const WITHOUT_ESCAPE: &str = r#"
 
 #[test]
 fn sets(rt: HostRuntime) {
-    let line = wrong(rt.alloc(), true, CASES);
+    let line = wrong_line(rt.alloc(), true, CASES);
     assert!(rt; line.is_none(), "at line {line:?}");
 }
 
 #[test]
 fn captures_without_escape(rt: HostRuntime) {
-    let line = wrong(rt.alloc(), false, WITHOUT_ESCAPE);
+    let line = wrong_line(rt.alloc(), false, WITHOUT_ESCAPE);
     assert!(rt; line.is_none(), "at line {line:?}");
 }

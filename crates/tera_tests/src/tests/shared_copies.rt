@@ -22,7 +22,7 @@ fn numbers(alloc: Global) -> Option<Value> {
 
 fn shared_numbers(alloc: Global) -> Option<Value> {
     match numbers(alloc) {
-        Some(numbers) => numbers.shared(alloc).ok(),
+        Some(numbers) => numbers.into_shared(alloc).ok(),
         None => None,
     }
 }
@@ -34,13 +34,13 @@ fn is_same(copy: TeraResult<Value>, value: &Value) -> bool {
     }
 }
 
-fn copied(alloc: Global, value: &Value) -> Option<TeraResult<Value>> {
+fn copy_without_memory(alloc: Global, value: &Value) -> Option<TeraResult<Value>> {
     with_little(alloc, || with_budget(alloc, 0, || value.try_clone()))?
 }
 
 /// Whether the value is copied where no memory is left; none where the test itself finds no room.
 fn is_copied(alloc: Global, value: &Value) -> Option<bool> {
-    Some(is_same(copied(alloc, value)?, value))
+    Some(is_same(copy_without_memory(alloc, value)?, value))
 }
 
 fn is_some_copied(alloc: Global, value: Option<Value>) -> Option<bool> {

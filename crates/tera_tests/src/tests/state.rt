@@ -17,16 +17,16 @@ const LOOKS: [Look; 3] = [
 
 /// A value that is written, whether it is safe, and what is written where text is escaped.
 #[derive(Clone, Copy)]
-struct Row(&'static str, bool, &'static str);
+struct WrittenRow(&'static str, bool, &'static str);
 
-const ROWS: [Row; 3] = [
-    Row("plain", false, "plain"),
-    Row(
+const ROWS: [WrittenRow; 3] = [
+    WrittenRow("plain", false, "plain"),
+    WrittenRow(
         "<a href=\"b\">'&'</a>",
         false,
         "&lt;a href=&quot;b&quot;&gt;&#x27;&amp;&#x27;&lt;/a&gt;",
     ),
-    Row("<b>", true, "<b>"),
+    WrittenRow("<b>", true, "<b>"),
 ];
 
 fn put(alloc: Global, context: &mut Context, name: &str, text: &str) -> bool {
@@ -79,7 +79,7 @@ fn names_are_looked_up(rt: HostRuntime) {
     assert!(rt; finds_all(&state) && refuses_another_type(&state));
 }
 
-fn value_of(alloc: Global, row: Row) -> Option<Value> {
+fn value_of(alloc: Global, row: WrittenRow) -> Option<Value> {
     if row.1 {
         Value::safe_string(alloc, row.0).ok()
     } else {
@@ -87,7 +87,7 @@ fn value_of(alloc: Global, row: Row) -> Option<Value> {
     }
 }
 
-fn writes(alloc: Global, state: &State<'_>, row: Row) -> bool {
+fn writes(alloc: Global, state: &State<'_>, row: WrittenRow) -> bool {
     match value_of(alloc, row) {
         Some(value) => is_text(state.escape_if_needed(&value), row.2),
         None => false,
@@ -173,7 +173,7 @@ fn taken_filters_are_refused(rt: HostRuntime) {
     assert!(rt; refuses_taken(alloc, &scopes) && refuses(alloc, &alone, "default"));
 }
 
-fn input_of(alloc: Global, row: Row) -> Option<StringInput> {
+fn input_of(alloc: Global, row: WrittenRow) -> Option<StringInput> {
     let mut arguments = Kwargs::new(alloc);
     match value_of(alloc, row) {
         Some(value) => {
@@ -187,14 +187,14 @@ fn input_of(alloc: Global, row: Row) -> Option<StringInput> {
     }
 }
 
-fn renders(alloc: Global, state: &State<'_>, row: Row) -> bool {
+fn renders(alloc: Global, state: &State<'_>, row: WrittenRow) -> bool {
     match input_of(alloc, row) {
-        Some(input) => is_text(input.rendered(state), row.2),
+        Some(input) => is_text(input.render(state), row.2),
         None => false,
     }
 }
 
-fn keeps_mark(alloc: Global, row: Row) -> bool {
+fn keeps_mark(alloc: Global, row: WrittenRow) -> bool {
     match input_of(alloc, row) {
         Some(input) => {
             input.as_str() == row.0

@@ -1,5 +1,5 @@
 //! Choices and text as such.
-use super::cases::wrong;
+use super::cases::wrong_line;
 
 const CASES: &str = r#"
 {% if name %}a{% endif %}b => ab
@@ -32,6 +32,6 @@ a {%- raw -%} {{ name }} {%- endraw -%} b => a{{ name }}b
 
 #[test]
 fn statements(rt: HostRuntime) {
-    let line = wrong(rt.alloc(), true, CASES);
+    let line = wrong_line(rt.alloc(), true, CASES);
     assert!(rt; line.is_none(), "at line {line:?}");
 }

@@ -3,7 +3,7 @@ use scarce_memory::Tried;
 use tera::{Error, ErrorKind};
 
 /// How a call that found memory ended, by whether its answer is right.
-pub fn answered(is_right: bool) -> Tried {
+pub fn answered_if(is_right: bool) -> Tried {
     if is_right {
         Tried::Answered
     } else {
@@ -12,7 +12,7 @@ pub fn answered(is_right: bool) -> Tried {
 }
 
 /// How a call ended that answered this error, by whether all is as it has to be after want of memory.
-pub fn refused(error: &Error, is_unchanged: bool) -> Tried {
+pub fn refused_if(error: &Error, is_unchanged: bool) -> Tried {
     match error.kind() {
         ErrorKind::OutOfMemory if is_unchanged => Tried::Refused,
         _ => Tried::Wrong,

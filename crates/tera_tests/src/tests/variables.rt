@@ -76,7 +76,7 @@ const AROUND: [(&str, &str); 5] = [
 ];
 
 /// Whether these are the names of a template, in order.
-fn listed(engine: &Tera, name: &str, want: &str) -> bool {
+fn lists_variables(engine: &Tera, name: &str, want: &str) -> bool {
     let Ok(names) = engine.get_template_variables(name) else {
         return false;
     };
@@ -94,7 +94,7 @@ fn agrees(alloc: Global, line: &str) -> bool {
     let (Some((text, want)), Ok(mut engine)) = (line.split_once(" =>"), Tera::new(alloc)) else {
         return false;
     };
-    engine.add_raw_template("t", text).is_ok() && listed(&engine, "t", want)
+    engine.add_raw_template("t", text).is_ok() && lists_variables(&engine, "t", want)
 }
 
 fn families(alloc: Global) -> bool {
@@ -102,9 +102,9 @@ fn families(alloc: Global) -> bool {
         return false;
     };
     engine.add_raw_templates(&FAMILY).is_ok()
-        && listed(&engine, "child", "deep items title z")
-        && listed(&engine, "parent", "title")
-        && listed(&engine, "inc", "deep")
+        && lists_variables(&engine, "child", "deep items title z")
+        && lists_variables(&engine, "parent", "title")
+        && lists_variables(&engine, "inc", "deep")
 }
 
 fn circles(alloc: Global) -> bool {
@@ -113,10 +113,10 @@ fn circles(alloc: Global) -> bool {
     };
     engine.set_fallback_prefixes(&["one/"]).is_ok()
         && engine.add_raw_templates(&AROUND).is_ok()
-        && listed(&engine, "base", "a b d")
-        && listed(&engine, "kid", "a b d")
-        && listed(&engine, "far", "e f")
-        && listed(&engine, "user", "e f g")
+        && lists_variables(&engine, "base", "a b d")
+        && lists_variables(&engine, "kid", "a b d")
+        && lists_variables(&engine, "far", "e f")
+        && lists_variables(&engine, "user", "e f g")
 }
 
 fn none_is_there(alloc: Global) -> bool {

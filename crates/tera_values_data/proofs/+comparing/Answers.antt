@@ -50,7 +50,7 @@ pub order::compare_entries-returns-then-is_ne : goal.order::compare_entries-retu
 order::compare_entries-returns-then-is_ne t c =
     let in_a : c.in-Some.i < length c.args.a.now = first_in (left c.loop-i.a_keys) (left c.next.new.self) c.in-Some.i (length c.args.a.now) c.in-Some.ensures c.loop-i.invariant.in_a in
     let in_b : c.in-Some-next.j < length c.args.b.now = first_in (left c.loop-i.b_keys) (left c.next-in-Some.new.self) c.in-Some-next.j (length c.args.b.now) c.in-Some-next.ensures c.loop-i.invariant.in_b in
-    let keys = c.compare_key-keys.ensures ∙ ap (key_cmp (key_view c.index-a-i.result.key)) c.wanted.ensures in
+    let keys = c.compare_key-keys.ensures ∙ ap (key_cmp (key_view c.index-a-i.result.key)) c.as_key_ref.ensures in
     keys_tell (left c.next.new.self) (left c.next-in-Some.new.self) c.args.a.now c.args.b.now c.in-Some.i c.in-Some-next.j c.index-a-i.result c.index-b-j.result in_a in_b c.index-a-i.is c.index-b-j.is c.compare_key-keys.result keys (sym c.is_ne.ensures ∙ c.if-is_ne.true) ∙ sym (as_passed (left c.loop-i.a_keys) (c.in-Some.i ∷ left c.next.new.self) (left c.loop-i.b_keys) (c.in-Some-next.j ∷ left c.next-in-Some.new.self) c.args.a.now c.args.b.now c.in-Some.ensures c.in-Some-next.ensures) ∙ sym c.loop-i.invariant.rest
 
 pub order::compare_entries-compare-values-requires : goal.order::compare_entries-compare-values-requires
@@ -63,14 +63,14 @@ pub order::compare_entries-returns-then-is_ne-2 : goal.order::compare_entries-re
 order::compare_entries-returns-then-is_ne-2 t c =
     let in_a : c.in-Some.i < length c.args.a.now = first_in (left c.loop-i.a_keys) (left c.next.new.self) c.in-Some.i (length c.args.a.now) c.in-Some.ensures c.loop-i.invariant.in_a in
     let in_b : c.in-Some-next.j < length c.args.b.now = first_in (left c.loop-i.b_keys) (left c.next-in-Some.new.self) c.in-Some-next.j (length c.args.b.now) c.in-Some-next.ensures c.loop-i.invariant.in_b in
-    let keys = c.compare_key-keys.ensures ∙ ap (key_cmp (key_view c.index-a-i.result.key)) c.wanted.ensures in
+    let keys = c.compare_key-keys.ensures ∙ ap (key_cmp (key_view c.index-a-i.result.key)) c.as_key_ref.ensures in
     values_tell (left c.next.new.self) (left c.next-in-Some.new.self) c.args.a.now c.args.b.now c.in-Some.i c.in-Some-next.j c.index-a-i.result c.index-b-j.result in_a in_b c.index-a-i.is c.index-b-j.is c.compare_key-keys.result c.compare-values.result keys (sym c.is_ne.ensures ∙ c.if-is_ne.false) c.compare-values.ensures (sym c.is_ne-in-Some.ensures ∙ c.if-is_ne-2.true) ∙ sym (as_passed (left c.loop-i.a_keys) (c.in-Some.i ∷ left c.next.new.self) (left c.loop-i.b_keys) (c.in-Some-next.j ∷ left c.next-in-Some.new.self) c.args.a.now c.args.b.now c.in-Some.ensures c.in-Some-next.ensures) ∙ sym c.loop-i.invariant.rest
 
 pub order::compare_entries-loop-i-preserved : goal.order::compare_entries-loop-i-preserved
 order::compare_entries-loop-i-preserved t c =
     let in_a : c.in-Some.i < length c.args.a.now = first_in (left c.loop-i.a_keys) (left c.next.new.self) c.in-Some.i (length c.args.a.now) c.in-Some.ensures c.loop-i.invariant.in_a in
     let in_b : c.in-Some-next.j < length c.args.b.now = first_in (left c.loop-i.b_keys) (left c.next-in-Some.new.self) c.in-Some-next.j (length c.args.b.now) c.in-Some-next.ensures c.loop-i.invariant.in_b in
-    let keys = c.compare_key-keys.ensures ∙ ap (key_cmp (key_view c.index-a-i.result.key)) c.wanted.ensures in
+    let keys = c.compare_key-keys.ensures ∙ ap (key_cmp (key_view c.index-a-i.result.key)) c.as_key_ref.ensures in
     record {
       in_a = rest_in (left c.loop-i.a_keys) (left c.next.new.self) c.in-Some.i (length c.args.a.now) c.in-Some.ensures c.loop-i.invariant.in_a;
       in_b = rest_in (left c.loop-i.b_keys) (left c.next-in-Some.new.self) c.in-Some-next.j (length c.args.b.now) c.in-Some-next.ensures c.loop-i.invariant.in_b;

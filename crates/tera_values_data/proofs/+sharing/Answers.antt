@@ -6,8 +6,8 @@ use Rattle.tera_values_data.proofs.Sizes.{item_below}
 use Rattle.tera_values_data.proofs.Compared.{entry_below}
 use Rattle.tera_values_data.proofs.+sharing.Goals as goal
 
-pub copy::share-shared-requires : goal.copy::share-shared-requires
-copy::share-shared-requires t c =
+pub copy::share-into_shared-requires : goal.copy::share-into_shared-requires
+copy::share-into_shared-requires t c =
     let whole : val_size c.replace-whole.result ≡ val_size c.args.value.now = ap val_size c.replace-whole.ensures.value in
     (omega (arith, whole, c.decreases), tt)
 

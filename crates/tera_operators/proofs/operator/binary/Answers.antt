@@ -7,15 +7,15 @@ use Rattle.tera_operators.proofs.operator.binary.Goals as goal
 
 pub returns-in-Divide-clause-value : goal.returns-in-Divide-clause-value
 returns-in-Divide-clause-value c =
-    let told = c.divided.ensures.value (λ a b. cond (int_eq (int_rem_euclid a b) (pos 0)) (within (int_div_euclid a b)) (Err message)) in
+    let told = c.division_result.ensures.value (λ a b. cond (int_eq (int_rem_euclid a b) (pos 0)) (within (int_div_euclid a b)) (Err message)) in
     search (rules, told)
 
 pub returns-in-FloorDivide-clause-value : goal.returns-in-FloorDivide-clause-value
 returns-in-FloorDivide-clause-value c =
-    let told = c.divided-in-FloorDivide.ensures.value (λ a b. within (int_div_euclid a b)) in
+    let told = c.division_result-in-FloorDivide.ensures.value (λ a b. within (int_div_euclid a b)) in
     search (rules, told)
 
 pub returns-in-Remainder-clause-value : goal.returns-in-Remainder-clause-value
 returns-in-Remainder-clause-value c =
-    let told = c.divided-in-Remainder.ensures.value (λ a b. within (int_rem_euclid a b)) in
+    let told = c.division_result-in-Remainder.ensures.value (λ a b. within (int_rem_euclid a b)) in
     search (rules, told)

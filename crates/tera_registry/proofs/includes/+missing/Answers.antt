@@ -23,29 +23,29 @@ none_if_not_some None false e = (let q : false ≡ true = e in cc)
 none_if_not_some (Some i) true e = (let q : true ≡ false = e in cc)
 none_if_not_some (Some i) false e = refl
 
-pub node_misses-returns-then-nodes_miss : goal.node_misses-returns-then-nodes_miss
-node_misses-returns-then-nodes_miss t c =
+pub node_has_missing_include-returns-then-nodes_have_missing_include : goal.node_has_missing_include-returns-then-nodes_have_missing_include
+node_has_missing_include-returns-then-nodes_have_missing_include t c =
     let p = is_missing (seen c.args.templates.now c.args.prefixes.now) in
-    let first = c.nodes_miss-in-If.ensures ∙ ap (λ x. list_any p (includes (nodes_of x))) c.as_slice-in-If.ensures.value in
-    c.if-nodes_miss.true ∙ sym (any_of_both p _ _ _ true (ap (λ x. x.0) (in_both _ c.in-If.body c.in-If.other c.in-If.is)) (sym first ∙ c.if-nodes_miss.true))
+    let first = c.nodes_have_missing_include-in-If.ensures ∙ ap (λ x. list_any p (includes (nodes_of x))) c.as_slice-in-If.ensures.value in
+    c.if-nodes_have_missing_include.true ∙ sym (any_of_both p _ _ _ true (ap (λ x. x.0) (in_both _ c.in-If.body c.in-If.other c.in-If.is)) (sym first ∙ c.if-nodes_have_missing_include.true))
 
-pub node_misses-returns-else-nodes_miss : goal.node_misses-returns-else-nodes_miss
-node_misses-returns-else-nodes_miss t c =
+pub node_has_missing_include-returns-else-nodes_have_missing_include : goal.node_has_missing_include-returns-else-nodes_have_missing_include
+node_has_missing_include-returns-else-nodes_have_missing_include t c =
     let p = is_missing (seen c.args.templates.now c.args.prefixes.now) in
-    let first = c.nodes_miss-in-If.ensures ∙ ap (λ x. list_any p (includes (nodes_of x))) c.as_slice-in-If.ensures.value in
-    c.nodes_miss-else-nodes_miss.ensures ∙ ap (λ x. list_any p (includes (nodes_of x))) c.as_slice-else-nodes_miss.ensures.value ∙ sym (any_of_both p _ _ _ false (ap (λ x. x.0) (in_both _ c.in-If.body c.in-If.other c.in-If.is)) (sym first ∙ c.if-nodes_miss.false))
+    let first = c.nodes_have_missing_include-in-If.ensures ∙ ap (λ x. list_any p (includes (nodes_of x))) c.as_slice-in-If.ensures.value in
+    c.nodes_have_missing_include-else-nodes_have_missing_include.ensures ∙ ap (λ x. list_any p (includes (nodes_of x))) c.as_slice-else-nodes_have_missing_include.ensures.value ∙ sym (any_of_both p _ _ _ false (ap (λ x. x.0) (in_both _ c.in-If.body c.in-If.other c.in-If.is)) (sym first ∙ c.if-nodes_have_missing_include.false))
 
-pub node_misses-returns-in-Block : goal.node_misses-returns-in-Block
-node_misses-returns-in-Block t c =
+pub node_has_missing_include-returns-in-Block : goal.node_has_missing_include-returns-in-Block
+node_has_missing_include-returns-in-Block t c =
     let p = is_missing (seen c.args.templates.now c.args.prefixes.now) in
-    c.nodes_miss.ensures ∙ ap (list_any p) (ap (λ x. includes (nodes_of x)) c.as_slice.ensures.value ∙ includes_in_block _ c.in-Block.block c.in-Block.is)
+    c.nodes_have_missing_include.ensures ∙ ap (list_any p) (ap (λ x. includes (nodes_of x)) c.as_slice.ensures.value ∙ includes_in_block _ c.in-Block.block c.in-Block.is)
 
-pub node_misses-returns-in-Capture : goal.node_misses-returns-in-Capture
-node_misses-returns-in-Capture t c =
+pub node_has_missing_include-returns-in-Capture : goal.node_has_missing_include-returns-in-Capture
+node_has_missing_include-returns-in-Capture t c =
     let p = is_missing (seen c.args.templates.now c.args.prefixes.now) in
-    c.nodes_miss-in-Capture.ensures ∙ ap (list_any p) (ap (λ x. includes (nodes_of x)) c.as_slice-in-Capture.ensures.value ∙ ap (λ x. x.0) (in_body _ c.in-Capture.body c.in-Capture.is))
+    c.nodes_have_missing_include-in-Capture.ensures ∙ ap (list_any p) (ap (λ x. includes (nodes_of x)) c.as_slice-in-Capture.ensures.value ∙ ap (λ x. x.0) (in_body _ c.in-Capture.body c.in-Capture.is))
 
-pub node_misses-returns-in-Include : goal.node_misses-returns-in-Include
-node_misses-returns-in-Include t c =
+pub node_has_missing_include-returns-in-Include : goal.node_has_missing_include-returns-in-Include
+node_has_missing_include-returns-in-Include t c =
     let p = is_missing (seen c.args.templates.now c.args.prefixes.now) in
     none_if_not_some _ _ c.is_none.ensures ∙ is_none-position (entries_of c.args.templates.now) _ _ c.resolve.ensures ∙ ap p c.as_str.ensures ∙ sym (or_false (p _)) ∙ sym (ap (λ n. list_any p (node_includes (node_of n))) c.in-Include.is)

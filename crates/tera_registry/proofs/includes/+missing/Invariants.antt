@@ -7,7 +7,7 @@ use Rattle.tera_registry.specs.Kept.{seen}
 use Rattle.tera_registry.proofs.includes.+missing.Given as goal
 
 -- what was passed misses nothing
-abbrev pub invariant-nodes_miss-loop-node : goal.invariant-nodes_miss-loop-node
-invariant-nodes_miss-loop-node l =
+abbrev pub invariant-nodes_have_missing_include-loop-node : goal.invariant-nodes_have_missing_include-loop-node
+invariant-nodes_have_missing_include-loop-node l =
     list_any (λ name. is_none (resolve (seen l.templates l.prefixes) name)) (includes (nodes_of (drop l.node-index l.nodes)))
     ≡ list_any (λ name. is_none (resolve (seen l.templates l.prefixes) name)) (includes (nodes_of l.nodes))

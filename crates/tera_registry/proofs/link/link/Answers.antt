@@ -15,7 +15,7 @@ use Rattle.tera_registry.proofs.Checked.{climbed-says, climbed-faultless, lacks-
 use Rattle.tera_registry.proofs.link.link.Goals as goal
 
 pub returns-in-Err-clause-answer : goal.returns-in-Err-clause-answer
-returns-in-Err-clause-answer g c = rw c.in_words.ensures (climbed-says c.in-Err.fault g.registry c.in-Err.ensures.answer)
+returns-in-Err-clause-answer g c = rw c.fault_in_words.ensures (climbed-says c.in-Err.fault g.registry c.in-Err.ensures.answer)
 
 pub least_circle-requires : goal.least_circle-requires
 least_circle-requires g c =
@@ -34,12 +34,12 @@ roots-requires g c =
       subst (λ (r : Registry). AreUps r c.as_slice-2.result.now (length r.templates)) here (ups-served engine ts ps _ _ ups),
       (
         subst (λ (r : Registry). IsFirstCircle r c.in_ok-circle.circle) here (circle-served engine ts ps c.in_ok-circle.circle (first_circle (seen ts ps) _ c.in_ok-circle.circle e c.in_ok-circle.ensures)),
-        subst (λ (r : Registry). IsFirstTie r c.in_ok-choices.field-0.tie) here (tie-served engine ts ps c.in_ok-choices.field-0.tie c.in_ok-choices.ensures.tie),
+        subst (λ (r : Registry). IsFirstTie r c.in_ok-components_by_name.field-0.tie) here (tie-served engine ts ps c.in_ok-components_by_name.field-0.tie c.in_ok-components_by_name.ensures.tie),
       ),
     )
 
-pub any_lacks-requires : goal.any_lacks-requires
-any_lacks-requires g c = λ κs within.
+pub any_is_incomplete-requires : goal.any_is_incomplete-requires
+any_is_incomplete-requires g c = λ κs within.
     let ts = c.args.templates.now in
     let ps = c.args.prefixes.now in
     let engine = g.O.Objects.engine c.args.objects.now in
@@ -54,7 +54,7 @@ any_lacks-requires g c = λ κs within.
           (
             sym (length-rows c.as_slice-4.result.now) ∙ edges.as_many,
             (
-              subst (λ (r : Registry). AreChosen r c.in_ok-choices.field-0.choices) here (chosen-served engine ts ps c.in_ok-choices.field-0.choices c.in_ok-choices.ensures.taken),
+              subst (λ (r : Registry). AreChosen r c.in_ok-components_by_name.field-0.components_by_name) here (chosen-served engine ts ps c.in_ok-components_by_name.field-0.components_by_name c.in_ok-components_by_name.ensures.taken),
               ap (λ (r : Registry). r.engine) c.requires.1.1,
             ),
           ),
@@ -75,7 +75,7 @@ pub all_missing-requires : goal.all_missing-requires
 all_missing-requires g c = λ κs within.
     let ts = c.args.templates.now in
     let ps = c.args.prefixes.now in
-    let ups = all-ups ts ps _ _ c.as_slice-then-any_lacks.ensures.value c.in_ok-ups.ensures in (
+    let ups = all-ups ts ps _ _ c.as_slice-then-any_is_incomplete.ensures.value c.in_ok-ups.ensures in (
       within,
       (
         c.requires.1.0,
@@ -83,12 +83,12 @@ all_missing-requires g c = λ κs within.
       ),
     )
 
-pub returns-then-any_lacks-clause-answer : goal.returns-then-any_lacks-clause-answer
-returns-then-any_lacks-clause-answer g c =
-    told c.all_missing.result (accepted g.registry) c.all_missing.ensures (lacks-says g.registry c.in-Ok.ensures.answer (sym c.if-any_lacks.ensures))
+pub returns-then-any_is_incomplete-clause-answer : goal.returns-then-any_is_incomplete-clause-answer
+returns-then-any_is_incomplete-clause-answer g c =
+    told c.all_missing.result (accepted g.registry) c.all_missing.ensures (lacks-says g.registry c.in-Ok.ensures.answer (sym c.if-any_is_incomplete.ensures))
 
 pub returns-clause-answer : goal.returns-clause-answer
-returns-clause-answer g c = keeps-all g.registry c.in-Ok.ensures.answer (sym c.if-any_lacks.ensures)
+returns-clause-answer g c = keeps-all g.registry c.in-Ok.ensures.answer (sym c.if-any_is_incomplete.ensures)
 
 pub returns-clause-ups : goal.returns-clause-ups
 returns-clause-ups g c =
@@ -97,8 +97,8 @@ returns-clause-ups g c =
     let engine = g.O.Objects.engine c.args.objects.now in
     subst (λ (r : Registry). AreUps r c.in_ok-ups.ups.items (length r.templates)) (sym c.requires.1.1) (ups-served engine ts ps _ _ (all-ups ts ps _ _ refl c.in_ok-ups.ensures))
 
-pub returns-clause-choices : goal.returns-clause-choices
-returns-clause-choices g c =
+pub returns-clause-components_by_name : goal.returns-clause-components_by_name
+returns-clause-components_by_name g c =
     let engine = g.O.Objects.engine c.args.objects.now in
-    let choices = c.in_ok-choices.field-0.choices in
-    subst (λ (r : Registry). AreChosen r choices) (sym c.requires.1.1) (chosen-served engine c.args.templates.now c.args.prefixes.now choices c.in_ok-choices.ensures.taken)
+    let choices = c.in_ok-components_by_name.field-0.components_by_name in
+    subst (λ (r : Registry). AreChosen r choices) (sym c.requires.1.1) (chosen-served engine c.args.templates.now c.args.prefixes.now choices c.in_ok-components_by_name.ensures.taken)

@@ -25,15 +25,15 @@ up-preserved c =
           rw c.in_ok-push.ensures.items (passed r c.up.positions.items c.up.last t u v here (next-ancestors r u v c.in-At.next (c.requires.grounded.each c.up.last u here) c.in-At.ensures v_at) (c.up.invariant.so_far t u t_at here));
     }
 
-pub returns-in-Nothing-clause-those : goal.returns-in-Nothing-clause-those
-returns-in-Nothing-clause-those c =
+pub returns-in-None-clause-those : goal.returns-in-None-clause-those
+returns-in-None-clause-those c =
     let r = seen c.args.templates.now c.args.prefixes.now in
     let u = entry_of c.deref-template.result.now in
     let here = entry-among r c.args.templates.now c.up.last _ _ refl c.up.invariant.there c.index-templates-last.is c.deref-template.ensures in
-    λ t at. rw c.in_ok-push.ensures.items (passed-last r c.up.positions.items c.up.last t u here c.in-Nothing.ensures (c.up.invariant.so_far t u at here))
+    λ t at. rw c.in_ok-push.ensures.items (passed-last r c.up.positions.items c.up.last t u here c.in-None.ensures (c.up.invariant.so_far t u at here))
 
-pub returns-in-Nothing-clause-there : goal.returns-in-Nothing-clause-there
-returns-in-Nothing-clause-there c =
+pub returns-in-None-clause-there : goal.returns-in-None-clause-there
+returns-in-None-clause-there c =
     rw c.in_ok-push.ensures.items (AreThere-push _ _ _ c.up.invariant.inside c.up.invariant.there)
 
 pub returns-in-Missing-clause-those : goal.returns-in-Missing-clause-those

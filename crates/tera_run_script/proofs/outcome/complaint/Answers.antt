@@ -4,6 +4,6 @@ use Rattle.tera_run_script.proofs.outcome.complaint.Goals as goal
 
 pub returns-in-Unreadable-clause-complains : goal.returns-in-Unreadable-clause-complains
 returns-in-Unreadable-clause-complains g c =
-    rw c.in-Unreadable.is (complained (g.W.Output.passed c.args.writer.now) (g.W.Output.passed c.put.new.writer) (g.W.Output.settled c.put.new.writer) c.in-Unreadable.line
-    (codes "unreadable command at line " ++ c.as_bytes.result.now ++ codes "\n") c.put.result
-    (ap (λ number. codes "unreadable command at line " ++ number ++ codes "\n") (c.as_bytes.ensures.value ∙ c.format.ensures.text)) c.put.ensures.written.put c.put.ensures.settled)
+    rw c.in-Unreadable.is (complained (g.W.Output.passed c.args.writer.now) (g.W.Output.passed c.write_and_flush.new.writer) (g.W.Output.settled c.write_and_flush.new.writer) c.in-Unreadable.line
+    (codes "unreadable command at line " ++ c.as_bytes.result.now ++ codes "\n") c.write_and_flush.result
+    (ap (λ number. codes "unreadable command at line " ++ number ++ codes "\n") (c.as_bytes.ensures.value ∙ c.format.ensures.text)) c.write_and_flush.ensures.written.write_and_flush c.write_and_flush.ensures.settled)

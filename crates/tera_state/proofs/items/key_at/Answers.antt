@@ -1,5 +1,5 @@
 use Rattle.std.proofs.Common.{rules, sym, ◌∙◌, ap, option_map}
-use Rattle.tera_state.specs.Found.{key_as_value}
+use Rattle.tera_state.specs.FoundValue.{key_as_value}
 use Rattle.tera_state.proofs.Walked.{map_key, array_key, bytes_key}
 use Rattle.tera_state.proofs.items.key_at.Goals as goal
 

@@ -25,10 +25,10 @@ returns-in-Ok-clause-inside c =
 pub returns-in-Err-Syntax-clause-reads : goal.returns-in-Err-Syntax-clause-reads
 returns-in-Err-Syntax-clause-reads c =
     let within : Within (length c.args.source.now) c.in-Err-Syntax.span = subst (PointsWithin (length c.args.source.now)) c.in-Err-Syntax.field-0-is c.in-Err-Syntax.ensures.points in
-    says_one c.unread.result _ (Reads c.args.name.now (delimiters_of c.args.delimiters.now) c.args.source.now) c.unread.ensures
+    says_one c.error_at.result _ (Reads c.args.name.now (delimiters_of c.args.delimiters.now) c.args.source.now) c.error_at.ensures
     ((c.in-Err-Syntax.span, refl, within), spells_none c.args.name.now (delimiters_of c.args.delimiters.now) c.args.source.now (refused_by _ c.in-Err-Syntax.why c.in-Err-Syntax.span _ c.in-Err-Syntax.field-0-is c.in-Err-Syntax.ensures.value))
 
 pub returns-in-Err-Syntax-clause-plain : goal.returns-in-Err-Syntax-clause-plain
 returns-in-Err-Syntax-clause-plain c =
-    says_one c.unread.result _ (ReadsPlainText (delimiters_of c.args.delimiters.now) c.args.source.now) c.unread.ensures
+    says_one c.error_at.result _ (ReadsPlainText (delimiters_of c.args.delimiters.now) c.args.source.now) c.error_at.ensures
     (plain (delimiters_of c.args.delimiters.now) c.args.source.now (refused_by _ c.in-Err-Syntax.why c.in-Err-Syntax.span _ c.in-Err-Syntax.field-0-is c.in-Err-Syntax.ensures.value))

@@ -32,8 +32,8 @@ returns-in-Some-clause-moves c =
     let l = start_size_le c.as_bytes-in-Some.result.now c.in-Some.opening in
     let z = c.start_size-size.ensures in
     let more : c.args.at < c.args.at + c.start_size-size.result = omega (arith, s.0, l, z) in
-    if_ok c.behind.result (λ x f. omega (arith, more, f.0)) c.behind.ensures.rest
+    if_ok c.rest_of_tag.result (λ x f. omega (arith, more, f.0)) c.rest_of_tag.ensures.rest
 
 pub returns-in-Some-clause-points : goal.returns-in-Some-clause-points
 returns-in-Some-clause-points c =
-    points_from c.behind.result c.args.at (c.args.at + c.start_size-size.result) c.args.text.now c.split_at.result.1.now (omega arith) (omega (arith, c.split_at.ensures.back_len)) c.behind.ensures.points
+    points_from c.rest_of_tag.result c.args.at (c.args.at + c.start_size-size.result) c.args.text.now c.split_at.result.1.now (omega arith) (omega (arith, c.split_at.ensures.back_len)) c.rest_of_tag.ensures.points

@@ -28,8 +28,8 @@ returns-then-is_some-clause-value c =
 pub loop-i-preserved : goal.loop-i-preserved
 loop-i-preserved c =
     let d = delimiters_of c.args.delimiters.now in
-    let b : c.position_of_byte.result ≡ position (heads (first_bytes d)) c.after-in-loop-i.result.now = rw (c.as_bytes.ensures.value, c.as_bytes-2.ensures.value, c.as_bytes-3.ensures.value) at c.position_of_byte.ensures.value in
-    let e = b ∙ ap (position (heads (first_bytes d))) c.after-in-loop-i.ensures in
+    let b : c.position_of_byte.result ≡ position (heads (first_bytes d)) c.bytes_from-in-loop-i.result.now = rw (c.as_bytes.ensures.value, c.as_bytes-2.ensures.value, c.as_bytes-3.ensures.value) at c.position_of_byte.ensures.value in
+    let e = b ∙ ap (position (heads (first_bytes d))) c.bytes_from-in-loop-i.ensures in
     none_before-step (heads (first_bytes d)) (opens d) (opens_heads d (filled d c.requires.usable)) c.loop-i.i c.position_of_byte.result c.args.text.now c.loop-i.invariant c.loop-i-test.true (cc) e
 
 pub returns-clause-value : goal.returns-clause-value

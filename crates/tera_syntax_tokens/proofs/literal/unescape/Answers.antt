@@ -12,11 +12,11 @@ loop-from-init c = record {
 
 pub range-requires-clause-end_boundary : goal.range-requires-clause-end_boundary
 range-requires-clause-end_boundary c =
-    end_boundary (plain_from c.as_bytes-bytes.ensures.value c.loop-from-test.true c.after.ensures c.plain_len.ensures.value c.plain_len.ensures.within)
+    end_boundary (plain_from c.as_bytes-bytes.ensures.value c.loop-from-test.true c.bytes_from.ensures c.plain_len.ensures.value c.plain_len.ensures.within)
 
 pub returns-then-end-bytes : goal.returns-then-end-bytes
 returns-then-end-bytes c =
-    let p = plain_from c.as_bytes-bytes.ensures.value c.loop-from-test.true c.after.ensures c.plain_len.ensures.value c.plain_len.ensures.within in
+    let p = plain_from c.as_bytes-bytes.ensures.value c.loop-from-test.true c.bytes_from.ensures c.plain_len.ensures.value c.plain_len.ensures.within in
     wrote_all c.args.text.now (wrote_leading _ c.loop-from.invariant.so_far p c.range.ensures.value c.in_ok-push_str.ensures.bytes) (omega (arith, ap length c.as_bytes-bytes.ensures.value, c.if-end-bytes.true))
 
 pub loop-from-preserved-in-Some : goal.loop-from-preserved-in-Some
@@ -24,7 +24,7 @@ loop-from-preserved-in-Some c =
     let e = c.loop-from.from + c.plain_len.result in
     let text = c.args.text.now in
     let s = ap length c.as_bytes-bytes.ensures.value in
-    let p = plain_from c.as_bytes-bytes.ensures.value c.loop-from-test.true c.after.ensures c.plain_len.ensures.value c.plain_len.ensures.within in
+    let p = plain_from c.as_bytes-bytes.ensures.value c.loop-from-test.true c.bytes_from.ensures c.plain_len.ensures.value c.plain_len.ensures.within in
     let l : e < length text = omega (arith, s, p.fits, c.if-end-bytes.false) in
     let d = c.in-Some.ensures.low in
     let g = ap (λ t. get_or t (e + 1) 0) c.as_bytes-bytes.ensures.value in
@@ -39,7 +39,7 @@ loop-from-preserved-in-Some c =
 pub loop-from-preserved : goal.loop-from-preserved
 loop-from-preserved c =
     let e = c.loop-from.from + c.plain_len.result in
-    let p = plain_from c.as_bytes-bytes.ensures.value c.loop-from-test.true c.after.ensures c.plain_len.ensures.value c.plain_len.ensures.within in
+    let p = plain_from c.as_bytes-bytes.ensures.value c.loop-from-test.true c.bytes_from.ensures c.plain_len.ensures.value c.plain_len.ensures.within in
     let l : e < length c.args.text.now = omega (arith, ap length c.as_bytes-bytes.ensures.value, p.fits, c.if-end-bytes.false) in
     let b = slash_at p l in
     record {

@@ -21,23 +21,23 @@ returns-then-not-names_endraw-clause-value c at =
 pub returns-in-Some-clause-value : goal.returns-in-Some-clause-value
 returns-in-Some-clause-value c at =
     let n = c.blanks_len-n.result in
-    let e = behind_both c.blanks_len-n.result 6 c.args.text.now c.after-name.ensures c.after-more.ensures in
+    let e = behind_both c.blanks_len-n.result 6 c.args.text.now c.bytes_from-name.ensures c.bytes_from-more.ensures in
     sym (ap (option_map end_of) (alone c.args.end.now at n c.blanks_len-m.result c.args.text.now c.in-Some.ending c.requires.some (c.blanks_len-n.ensures.same at)
     c.blanks_len-n.ensures.stops (is_none _ (cc)) (cc) (rw e at c.blanks_len-m.ensures.same) (cc)))
 
 pub returns-in-None-clause-value : goal.returns-in-None-clause-value
 returns-in-None-clause-value c at =
     let n = c.blanks_len-n.result in
-    let e = behind_both c.blanks_len-n.result 6 c.args.text.now c.after-name.ensures c.after-more.ensures in
+    let e = behind_both c.blanks_len-n.result 6 c.args.text.now c.bytes_from-name.ensures c.bytes_from-more.ensures in
     sym (ap (option_map end_of) (not_alone c.args.end.now at n c.blanks_len-m.result c.args.text.now (c.blanks_len-n.ensures.same at)
     c.blanks_len-n.ensures.stops (is_none _ (cc)) (cc) (rw e at c.blanks_len-m.ensures.same) (rw e at c.blanks_len-m.ensures.stops) (cc)))
 
 pub returns-in-Some-clause-fits : goal.returns-in-Some-clause-fits
 returns-in-Some-clause-fits c u v =
-    let e = behind_both (c.blanks_len-n.result + 6) c.blanks_len-m.result c.args.text.now (behind_both c.blanks_len-n.result 6 c.args.text.now c.after-name.ensures c.after-more.ensures) c.after.ensures in
+    let e = behind_both (c.blanks_len-n.result + 6) c.blanks_len-m.result c.args.text.now (behind_both c.blanks_len-n.result 6 c.args.text.now c.bytes_from-name.ensures c.bytes_from-more.ensures) c.bytes_from.ensures in
     ending_boundary c.args.end.now c.args.text.now ((c.blanks_len-n.result + 6) + c.blanks_len-m.result) c.in-Some.ending u v c.requires.some (cc)
 
 pub returns-in-Some-clause-within : goal.returns-in-Some-clause-within
 returns-in-Some-clause-within c =
-    let e = behind_both (c.blanks_len-n.result + 6) c.blanks_len-m.result c.args.text.now (behind_both c.blanks_len-n.result 6 c.args.text.now c.after-name.ensures c.after-more.ensures) c.after.ensures in
+    let e = behind_both (c.blanks_len-n.result + 6) c.blanks_len-m.result c.args.text.now (behind_both c.blanks_len-n.result 6 c.args.text.now c.bytes_from-name.ensures c.bytes_from-more.ensures) c.bytes_from.ensures in
     (ending_fits c.args.end.now c.args.text.now ((c.blanks_len-n.result + 6) + c.blanks_len-m.result) c.in-Some.ending c.requires.some (cc)).1

@@ -22,8 +22,8 @@ start_size-size-requires c =
     let h : opening_at (delimiters_of c.args.delimiters.now) c.args.text.now ≡ Some c.in-Some.opening = cc in
     (start_fits c.args.text.now c.in-Some.opening (start_of c.args.delimiters.now c.args.text.now c.in-Some.opening c.requires.usable h)).1
 
-pub after-requires : goal.after-requires
-after-requires c =
+pub bytes_from-requires : goal.bytes_from-requires
+bytes_from-requires c =
     let h : opening_at (delimiters_of c.args.delimiters.now) c.args.text.now ≡ Some c.in-Some.opening = cc in
     let s = start_of c.args.delimiters.now c.args.text.now c.in-Some.opening c.requires.usable h in
     rw c.start_size-size.ensures (start_size_fits c.args.text.now c.in-Some.opening s)
@@ -33,21 +33,21 @@ ending-requires c = record { some = rw c.as_bytes.ensures.value (filled (delimit
 
 pub returns-in-Some-ending-clause-value : goal.returns-in-Some-ending-clause-value
 returns-in-Some-ending-clause-value c at =
-    let b = block_is (delimiters_of c.args.delimiters.now) at c.args.text.now c.in-Some.opening c.start_size-size.result c.as_bytes.result.now c.after.result.now (cc) (sym c.ne.ensures ∙ c.if-ne.false)
-    c.start_size-size.ensures c.as_bytes.ensures.value c.after.ensures in
+    let b = block_is (delimiters_of c.args.delimiters.now) at c.args.text.now c.in-Some.opening c.start_size-size.result c.as_bytes.result.now c.bytes_from.result.now (cc) (sym c.ne.ensures ∙ c.if-ne.false)
+    c.start_size-size.ensures c.as_bytes.ensures.value c.bytes_from.ensures in
     sym (ap Some (end_moves at c.start_size-size.result c.in-Some-ending.ending)) ∙ c.in-Some-ending.ensures.value (at + c.start_size-size.result) ∙ ap (option_map end_of) b
 
 pub returns-in-None-ending-clause-value : goal.returns-in-None-ending-clause-value
 returns-in-None-ending-clause-value c at =
-    let b = block_is (delimiters_of c.args.delimiters.now) at c.args.text.now c.in-Some.opening c.start_size-size.result c.as_bytes.result.now c.after.result.now (cc) (sym c.ne.ensures ∙ c.if-ne.false)
-    c.start_size-size.ensures c.as_bytes.ensures.value c.after.ensures in
+    let b = block_is (delimiters_of c.args.delimiters.now) at c.args.text.now c.in-Some.opening c.start_size-size.result c.as_bytes.result.now c.bytes_from.result.now (cc) (sym c.ne.ensures ∙ c.if-ne.false)
+    c.start_size-size.ensures c.as_bytes.ensures.value c.bytes_from.ensures in
     c.in-None-ending.ensures.value (at + c.start_size-size.result) ∙ ap (option_map end_of) b
 
 pub returns-in-Some-ending-clause-within : goal.returns-in-Some-ending-clause-within
 returns-in-Some-ending-clause-within c =
     let h : opening_at (delimiters_of c.args.delimiters.now) c.args.text.now ≡ Some c.in-Some.opening = cc in
     let s = start_size_fits c.args.text.now c.in-Some.opening (start_of c.args.delimiters.now c.args.text.now c.in-Some.opening c.requires.usable h) in
-    let l : length c.after.result.now ≡ length (drop c.start_size-size.result c.args.text.now) = ap length c.after.ensures in
+    let l : length c.bytes_from.result.now ≡ length (drop c.start_size-size.result c.args.text.now) = ap length c.bytes_from.ensures in
     omega (arith, s, l, c.start_size-size.ensures, length-drop c.start_size-size.result c.args.text.now, c.in-Some-ending.ensures.within)
 
 pub returns-in-Some-ending-clause-fits : goal.returns-in-Some-ending-clause-fits
@@ -56,8 +56,8 @@ returns-in-Some-ending-clause-fits c u =
     let s = start_of c.args.delimiters.now c.args.text.now c.in-Some.opening c.requires.usable h in
     let n = start_size c.in-Some.opening c.args.text.now in
     let b : IsCharBoundary c.args.text.now n = start_boundary c.args.text.now c.in-Some.opening s u in
-    let r : c.after.result.now ≡ drop n c.args.text.now = c.after.ensures ∙ ap (λ k. drop k c.args.text.now) c.start_size-size.ensures in
-    let v : IsUtf8 c.after.result.now = rw r (IsUtf8-drop c.args.text.now n u b) in
+    let r : c.bytes_from.result.now ≡ drop n c.args.text.now = c.bytes_from.ensures ∙ ap (λ k. drop k c.args.text.now) c.start_size-size.ensures in
+    let v : IsUtf8 c.bytes_from.result.now = rw r (IsUtf8-drop c.args.text.now n u b) in
     let w : IsUtf8 c.as_bytes.result.now = rw c.as_bytes.ensures.value (IsUtf8-string_bytes c.args.delimiters.now.block_end) in
-    let f : IsCharBoundary c.after.result.now c.in-Some-ending.ending.size = c.in-Some-ending.ensures.fits v w in
+    let f : IsCharBoundary c.bytes_from.result.now c.in-Some-ending.ending.size = c.in-Some-ending.ensures.fits v w in
     rw c.start_size-size.ensures (IsCharBoundary-from_rest c.args.text.now n c.in-Some-ending.ending.size b.0 (rw r at f))

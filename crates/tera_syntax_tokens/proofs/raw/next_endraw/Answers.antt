@@ -15,14 +15,14 @@ loop-i-init c =
 pub returns-then-is_some : goal.returns-then-is_some
 returns-then-is_some c =
     let d = delimiters_of c.args.delimiters.now in
-    let s : is_some c.endraw.result ≡ ends_raw d c.after.result.now = some_alike (end_from 0) end_of _ _ (c.endraw.ensures.value 0) in
+    let s : is_some c.endraw.result ≡ ends_raw d c.bytes_from.result.now = some_alike (end_from 0) end_of _ _ (c.endraw.ensures.value 0) in
     none_before-here (ends_raw d) c.loop-i.i c.args.text.now c.loop-i.invariant c.loop-i-test.true (cc)
 
 pub loop-i-preserved : goal.loop-i-preserved
 loop-i-preserved c =
     let d = delimiters_of c.args.delimiters.now in
-    let s : is_some c.endraw.result ≡ ends_raw d c.after.result.now = some_alike (end_from 0) end_of _ _ (c.endraw.ensures.value 0) in
-    let e = c.next_opening.ensures.value ∙ ap (position (opens d)) c.after-in-loop-i.ensures in
+    let s : is_some c.endraw.result ≡ ends_raw d c.bytes_from.result.now = some_alike (end_from 0) end_of _ _ (c.endraw.ensures.value 0) in
+    let e = c.next_opening.ensures.value ∙ ap (position (opens d)) c.bytes_from-in-loop-i.ensures in
     none_before-step (opens d) (ends_raw d) (ends_opened d) c.loop-i.i c.next_opening.result c.args.text.now c.loop-i.invariant c.loop-i-test.true (cc) e
 
 pub returns : goal.returns

@@ -11,8 +11,8 @@ pub split_at-requires : goal.split_at-requires
 split_at-requires c =
     rw (c.next_endraw-n.ensures, c.as_bytes.ensures.value) (raw_boundary c.args.delimiters.now c.args.text.now c.requires.usable c.utf8.text)
 
-pub trimmed-requires-clause-whole : goal.trimmed-requires-clause-whole
-trimmed-requires-clause-whole c =
+pub trimmed_words-requires-clause-whole : goal.trimmed_words-requires-clause-whole
+trimmed_words-requires-clause-whole c =
     rw (c.next_endraw-n.ensures, c.as_bytes.ensures.value) (raw_boundary c.args.delimiters.now c.args.text.now c.requires.usable c.utf8.text)
 
 pub trims_before-behind-requires : goal.trims_before-behind-requires
@@ -38,6 +38,6 @@ returns-clause-value c tokens =
     let b : c.trims_before-behind.result ≡ trims_before (drop n c.args.text.now) (opening_at d (drop n c.args.text.now)) =
     c.trims_before-behind.ensures ∙ ap (trims_before c.as_bytes-3.result.now) (c.opening_at.ensures ∙ ap (opening_at d) (c.as_bytes-4.ensures.value ∙ c.split_at.ensures.back))
     ∙ ap (λ t. trims_before t (opening_at d (drop n c.args.text.now))) (c.as_bytes-3.ensures.value ∙ c.split_at.ensures.back) in
-    let w : piece_of tokens c.trimmed.result ≡ words c.args.trims (trims_before (drop n c.args.text.now) (opening_at d (drop n c.args.text.now))) n c.args.at c.args.text.now =
-    c.trimmed.ensures tokens ∙ ap (λ t. words c.args.trims t n c.args.at c.args.text.now) b in
-    a_raw d c.args.trims c.args.at c.args.text.now n (piece_of tokens c.trimmed.result) c.in-Some.ending p w (sym e)
+    let w : piece_of tokens c.trimmed_words.result ≡ words c.args.trims (trims_before (drop n c.args.text.now) (opening_at d (drop n c.args.text.now))) n c.args.at c.args.text.now =
+    c.trimmed_words.ensures tokens ∙ ap (λ t. words c.args.trims t n c.args.at c.args.text.now) b in
+    a_raw d c.args.trims c.args.at c.args.text.now n (piece_of tokens c.trimmed_words.result) c.in-Some.ending p w (sym e)

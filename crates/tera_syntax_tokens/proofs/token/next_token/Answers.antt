@@ -28,4 +28,4 @@ pub returns : goal.returns
 returns c =
     let m : measured (drop c.args.i c.args.text.now) ≡ Some c.in-Some.measure = cc in
     let n : (c.args.i + c.in-Some.measure.size) - c.args.i ≡ c.in-Some.measure.size = omega arith in
-    a_token c.args.at c.args.i (c.args.i + c.in-Some.measure.size) c.args.text.now _ _ c.in-Some.measure m refl (c.range-word.ensures.value ∙ ap (λ k. take k (drop c.args.i c.args.text.now)) n) c.named.ensures
+    a_token c.args.at c.args.i (c.args.i + c.in-Some.measure.size) c.args.text.now _ _ c.in-Some.measure m refl (c.range-word.ensures.value ∙ ap (λ k. take k (drop c.args.i c.args.text.now)) n) c.word_kind_of.ensures

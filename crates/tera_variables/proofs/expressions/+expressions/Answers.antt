@@ -1,6 +1,6 @@
 use Rattle.std.proofs.Common.{◌∙◌, ap, refl, arith}
 use Rattle.std.proofs.lemmas.Grind.{common_steps}
-use Rattle.tera_syntax_tree.specs.declared.expression.Called.{out-Called}
+use Rattle.tera_syntax_tree.specs.declared.expression.FunctionCall.{out-Called}
 use Rattle.tera_syntax_tree.specs.declared.expression.ComponentTag.{out-ComponentTag}
 use Rattle.tera_syntax_tree.specs.View.{arguments_of}
 use Rattle.tera_variables.specs.Free.{arguments_free, ◌∪◌}

@@ -11,4 +11,4 @@ returns g c =
     let r = registry_of g.O.Objects.engine c.args.self.now in
     let a = c.args in
     let counted = c.render_by_call-answer in
-    rw c.unless_spent.ensures (gives_within (string_bytes {Z = Global}) counted.result (ComponentByName r a.call.name.now a.args.now a.implicits.now (lent_text a.call.body) a.autoescape) (a.limit < 8 * component_visits r a.call.name.now a.args.now a.implicits.now (lent_text a.call.body) a.autoescape) _ counted.ensures.means (λ over. omega (arith, c.within-steps.ensures, counted.ensures.few, exceeds a.limit g.L.Allowance.allowed counted.new.steps c.requires over)))
+    rw c.unless_spent.ensures (gives_within (string_bytes {Z = Global}) counted.result (ComponentByName r a.call.name.now a.args.now a.implicits.now (lent_text a.call.body) a.autoescape) (a.limit < 8 * component_visits r a.call.name.now a.args.now a.implicits.now (lent_text a.call.body) a.autoescape) _ counted.ensures.means (λ over. omega (arith, c.with_limit-steps.ensures, counted.ensures.few, exceeds a.limit g.L.Allowance.allowed counted.new.steps c.requires over)))

@@ -9,4 +9,4 @@ pub returns : goal.returns
 returns g c =
     let r = registry_of g.O.Objects.engine c.args.self.now in
     let counted = c.render_template-answer in
-    rw c.unless_spent.ensures (gives_within (string_bytes {Z = Global}) counted.result (ByName r c.args.template.name.now c.args.context.now) (c.args.limit < 8 * template_visits r c.args.template.name.now c.args.context.now) _ counted.ensures.means (λ over. omega (arith, c.within-steps.ensures, counted.ensures.few, exceeds c.args.limit g.L.Allowance.allowed counted.new.steps c.requires over)))
+    rw c.unless_spent.ensures (gives_within (string_bytes {Z = Global}) counted.result (ByName r c.args.template.name.now c.args.context.now) (c.args.limit < 8 * template_visits r c.args.template.name.now c.args.context.now) _ counted.ensures.means (λ over. omega (arith, c.with_limit-steps.ensures, counted.ensures.few, exceeds c.args.limit g.L.Allowance.allowed counted.new.steps c.requires over)))

@@ -9,4 +9,4 @@ pub returns : goal.returns
 returns g c =
     let r = registry_of g.O.Objects.engine c.args.self.now in
     let counted = c.render_text-answer in
-    rw c.unless_spent.ensures (gives_within (string_bytes {Z = Global}) counted.result (OneOff r c.args.source.text.now c.args.context.now c.args.autoescape) (TextTakesMore r c.args.source.text.now c.args.context.now c.args.autoescape c.args.limit) _ counted.ensures.means (λ over. counted.ensures.few c.args.limit (omega (arith, c.within-steps.ensures, exceeds c.args.limit g.L.Allowance.allowed counted.new.steps c.requires over))))
+    rw c.unless_spent.ensures (gives_within (string_bytes {Z = Global}) counted.result (OneOff r c.args.source.text.now c.args.context.now c.args.autoescape) (TextTakesMore r c.args.source.text.now c.args.context.now c.args.autoescape c.args.limit) _ counted.ensures.means (λ over. counted.ensures.few c.args.limit (omega (arith, c.with_limit-steps.ensures, exceeds c.args.limit g.L.Allowance.allowed counted.new.steps c.requires over))))

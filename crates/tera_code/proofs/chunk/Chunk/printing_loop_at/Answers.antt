@@ -1,12 +1,12 @@
 use Rattle.std.proofs.Common.{◌≡◌, length, map, Some, slice_get, ap, refl, subst}
 use Rattle.std.proofs.lemmas.Option.{slice_get_read}
-use Rattle.tera_code.specs.Packed.{shelf_of, unpacked}
+use Rattle.tera_code.specs.Packed.{tables_of, unpacked}
 use Rattle.tera_code.proofs.Noted.{noted_at, printing_told}
 use Rattle.tera_code.proofs.chunk.Chunk.printing_loop_at.Goals as goal
 
 pub returns-clause-ends : goal.returns-clause-ends
 returns-clause-ends c =
-    let s = shelf_of c.self.inside.tables in
+    let s = tables_of c.self.inside.tables in
     let ps = c.self.inside.code.items in
     let p = c.in_ok-get.field-0.now in
     let lent = c.deref.result.now in

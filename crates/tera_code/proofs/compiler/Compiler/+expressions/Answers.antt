@@ -1,6 +1,6 @@
 use Rattle.std.proofs.Common.{rules, ◌≡◌, false, refl, ◌∙◌, ◌∷◌, [], ◌++◌, length, ap, sym}
 use Rattle.tera_syntax_tree.specs.declared.expression.Applied.{out-Applied}
-use Rattle.tera_syntax_tree.specs.declared.expression.Called.{out-Called}
+use Rattle.tera_syntax_tree.specs.declared.expression.FunctionCall.{out-Called}
 use Rattle.tera_syntax_tree.specs.declared.expression.Choice.{Choice}
 use Rattle.tera_syntax_tree.specs.declared.expression.ComponentTag.{out-ComponentTag}
 use Rattle.tera_syntax_tree.specs.declared.expression.Operands.{Operands}
@@ -16,23 +16,23 @@ use Rattle.tera_code.proofs.compiler.Compiler.+expressions.Goals as goal
 
 pub expression-returns-in-Not : goal.expression-returns-in-Not
 expression-returns-in-Not t c =
-    record { ok = seen expr_code _ _ _ _ _ (ap (λ x. Not (expr_of x) c.in-Not.span) c.deref-in-Not.ensures ∙ sym (ap expr_of c.in-Not.is)) (c.unary.ensures.ok c.in-Not.span) }
+    record { ok = seen expr_code _ _ _ _ _ (ap (λ x. Not (expr_of x) c.in-Not.span) c.deref-in-Not.ensures ∙ sym (ap expr_of c.in-Not.is)) (c.unary_operation.ensures.ok c.in-Not.span) }
 
 pub expression-returns-in-Negate : goal.expression-returns-in-Negate
 expression-returns-in-Negate t c =
-    record { ok = seen expr_code _ _ _ _ _ (ap (λ x. Negate (expr_of x) c.in-Negate.span) c.deref-in-Negate.ensures ∙ sym (ap expr_of c.in-Negate.is)) (c.unary-in-Negate.ensures.ok c.in-Negate.span) }
+    record { ok = seen expr_code _ _ _ _ _ (ap (λ x. Negate (expr_of x) c.in-Negate.span) c.deref-in-Negate.ensures ∙ sym (ap expr_of c.in-Negate.is)) (c.unary_operation-in-Negate.ensures.ok c.in-Negate.span) }
 
 pub expression-returns-in-And : goal.expression-returns-in-And
 expression-returns-in-And t c =
-    record { ok = seen expr_code _ _ _ _ _ (ap (λ (x : Operands). And (expr_of x.left) (expr_of x.right) c.in-And.span) c.deref-in-And.ensures ∙ sym (ap expr_of c.in-And.is)) (c.logical.ensures.ok c.in-And.span) }
+    record { ok = seen expr_code _ _ _ _ _ (ap (λ (x : Operands). And (expr_of x.left) (expr_of x.right) c.in-And.span) c.deref-in-And.ensures ∙ sym (ap expr_of c.in-And.is)) (c.logical_operation.ensures.ok c.in-And.span) }
 
 pub expression-returns-in-Or : goal.expression-returns-in-Or
 expression-returns-in-Or t c =
-    record { ok = seen expr_code _ _ _ _ _ (ap (λ (x : Operands). Or (expr_of x.left) (expr_of x.right) c.in-Or.span) c.deref-in-Or.ensures ∙ sym (ap expr_of c.in-Or.is)) (c.logical-in-Or.ensures.ok c.in-Or.span) }
+    record { ok = seen expr_code _ _ _ _ _ (ap (λ (x : Operands). Or (expr_of x.left) (expr_of x.right) c.in-Or.span) c.deref-in-Or.ensures ∙ sym (ap expr_of c.in-Or.is)) (c.logical_operation-in-Or.ensures.ok c.in-Or.span) }
 
 pub expression-returns-in-Ternary : goal.expression-returns-in-Ternary
 expression-returns-in-Ternary t c =
-    record { ok = seen expr_code _ _ _ _ _ (ap (λ (x : Choice). Ternary (expr_of x.value) (expr_of x.condition) (expr_of x.other) c.in-Ternary.span) c.deref-in-Ternary.ensures ∙ sym (ap expr_of c.in-Ternary.is)) (c.ternary.ensures.ok c.in-Ternary.span) }
+    record { ok = seen expr_code _ _ _ _ _ (ap (λ (x : Choice). Ternary (expr_of x.value) (expr_of x.condition) (expr_of x.other) c.in-Ternary.span) c.deref-in-Ternary.ensures ∙ sym (ap expr_of c.in-Ternary.is)) (c.choice.ensures.ok c.in-Ternary.span) }
 
 pub expression-returns-in_ok-expression-in-Slice : goal.expression-returns-in_ok-expression-in-Slice
 expression-returns-in_ok-expression-in-Slice t c =
@@ -48,7 +48,7 @@ expression-returns-in-Map t c =
 
 pub expression-returns-in-Super : goal.expression-returns-in-Super
 expression-returns-in-Super t c =
-    record { ok = seen expr_code _ _ _ _ _ (ap (λ xs. Super (arguments_of xs) c.in-Super.span) c.as_slice-in-Super.ensures.value ∙ sym (ap expr_of c.in-Super.is ∙ view_super c.in-Super.arguments c.in-Super.span)) c.above.ensures.ok }
+    record { ok = seen expr_code _ _ _ _ _ (ap (λ xs. Super (arguments_of xs) c.in-Super.span) c.as_slice-in-Super.ensures.value ∙ sym (ap expr_of c.in-Super.is ∙ view_super c.in-Super.arguments c.in-Super.span)) c.super_call.ensures.ok }
 
 pub expression-returns-in-Comprehension : goal.expression-returns-in-Comprehension
 expression-returns-in-Comprehension t c =
@@ -56,31 +56,31 @@ expression-returns-in-Comprehension t c =
 
 pub expression-returns-in-Filter : goal.expression-returns-in-Filter
 expression-returns-in-Filter t c =
-    record { ok = seen expr_code _ _ _ _ _ (ap (λ x. applied_of Filter x c.in-Filter.span) c.deref-in-Filter.ensures ∙ sym (ap expr_of c.in-Filter.is ∙ view_filter c.in-Filter.applied c.in-Filter.span)) c.applied.ensures.ok }
+    record { ok = seen expr_code _ _ _ _ _ (ap (λ x. applied_of Filter x c.in-Filter.span) c.deref-in-Filter.ensures ∙ sym (ap expr_of c.in-Filter.is ∙ view_filter c.in-Filter.application c.in-Filter.span)) c.application.ensures.ok }
 
 pub expression-returns-in-Test : goal.expression-returns-in-Test
 expression-returns-in-Test t c =
-    record { ok = seen expr_code _ _ _ _ _ (ap (λ x. applied_of Test x c.in-Test.span) c.deref-in-Test.ensures ∙ sym (ap expr_of c.in-Test.is ∙ view_test c.in-Test.applied c.in-Test.span)) c.applied-in-Test.ensures.ok }
+    record { ok = seen expr_code _ _ _ _ _ (ap (λ x. applied_of Test x c.in-Test.span) c.deref-in-Test.ensures ∙ sym (ap expr_of c.in-Test.is ∙ view_test c.in-Test.application c.in-Test.span)) c.application-in-Test.ensures.ok }
 
 pub expression-returns-in-Call : goal.expression-returns-in-Call
 expression-returns-in-Call t c =
-    record { ok = seen expr_code _ _ _ _ _ (ap (λ x. called_of x c.in-Call.span) c.deref-in-Call.ensures ∙ sym (ap expr_of c.in-Call.is ∙ view_call c.in-Call.called c.in-Call.span)) c.called.ensures.ok }
+    record { ok = seen expr_code _ _ _ _ _ (ap (λ x. called_of x c.in-Call.span) c.deref-in-Call.ensures ∙ sym (ap expr_of c.in-Call.is ∙ view_call c.in-Call.function_call c.in-Call.span)) c.function_call.ensures.ok }
 
 pub expression-returns-in-Component : goal.expression-returns-in-Component
 expression-returns-in-Component t c =
     record { ok = seen expr_code _ _ _ _ _ (ap (λ x. tag_of x c.in-Component.span) c.deref-in-Component.ensures ∙ sym (ap expr_of c.in-Component.is ∙ view_component c.in-Component.tag c.in-Component.span)) c.tag.ensures.ok }
 
-pub logical-returns-then-is_or : goal.logical-returns-then-is_or
-logical-returns-then-is_or t c =
-    record { ok = λ span. on_ok_by _ _ _ _ (jump_written _ _ _ _ _ _ _ _ (λ count. instruction.JumpIfTrueOrPop count) c.in_ok-expression.ensures.ok c.in_ok-position.ensures.position c.in_ok-position.ensures.ok c.in_ok-expression-2.ensures.ok c.behind-count.ensures ∙ decided c.args.self.now _ _ (expr_of c.args.operands.now.left) (expr_of c.args.operands.now.right) span c.if-is_or.true) c.fill.ensures.ok }
+pub logical_operation-returns-then-is_or : goal.logical_operation-returns-then-is_or
+logical_operation-returns-then-is_or t c =
+    record { ok = λ span. on_ok_by _ _ _ _ (jump_written _ _ _ _ _ _ _ _ (λ count. instruction.JumpIfTrueOrPop count) c.in_ok-expression.ensures.ok c.in_ok-position.ensures.position c.in_ok-position.ensures.ok c.in_ok-expression-2.ensures.ok c.count_after-count.ensures ∙ decided c.args.self.now _ _ (expr_of c.args.operands.now.left) (expr_of c.args.operands.now.right) span c.if-is_or.true) c.fill.ensures.ok }
 
-pub logical-returns-else-is_or : goal.logical-returns-else-is_or
-logical-returns-else-is_or t c =
-    record { ok = λ span. on_ok_by _ _ _ _ (jump_written _ _ _ _ _ _ _ _ (λ count. instruction.JumpIfFalseOrPop count) c.in_ok-expression.ensures.ok c.in_ok-position.ensures.position c.in_ok-position.ensures.ok c.in_ok-expression-2.ensures.ok c.behind-count.ensures ∙ decided c.args.self.now _ _ (expr_of c.args.operands.now.left) (expr_of c.args.operands.now.right) span c.if-is_or.false) c.fill-else-is_or.ensures.ok }
+pub logical_operation-returns-else-is_or : goal.logical_operation-returns-else-is_or
+logical_operation-returns-else-is_or t c =
+    record { ok = λ span. on_ok_by _ _ _ _ (jump_written _ _ _ _ _ _ _ _ (λ count. instruction.JumpIfFalseOrPop count) c.in_ok-expression.ensures.ok c.in_ok-position.ensures.position c.in_ok-position.ensures.ok c.in_ok-expression-2.ensures.ok c.count_after-count.ensures ∙ decided c.args.self.now _ _ (expr_of c.args.operands.now.left) (expr_of c.args.operands.now.right) span c.if-is_or.false) c.fill-else-is_or.ensures.ok }
 
-pub ternary-returns : goal.ternary-returns
-ternary-returns t c =
-    record { ok = λ span. on_ok_by _ _ _ _ (choice_written _ _ _ _ _ _ _ _ _ _ _ _ c.in_ok-expression.ensures.ok c.in_ok-position.ensures.position c.in_ok-position.ensures.ok c.in_ok-expression-2.ensures.ok c.in_ok-position-2.ensures.position c.in_ok-position-2.ensures.ok c.in_ok-expression-3.ensures.ok c.behind.ensures) c.fill.ensures.ok }
+pub choice-returns : goal.choice-returns
+choice-returns t c =
+    record { ok = λ span. on_ok_by _ _ _ _ (choice_written _ _ _ _ _ _ _ _ _ _ _ _ c.in_ok-expression.ensures.ok c.in_ok-position.ensures.position c.in_ok-position.ensures.ok c.in_ok-expression-2.ensures.ok c.in_ok-position-2.ensures.position c.in_ok-position-2.ensures.ok c.in_ok-expression-3.ensures.ok c.count_after.ensures) c.fill.ensures.ok }
 
 pub comprehension-returns : goal.comprehension-returns
 comprehension-returns t c =
@@ -93,19 +93,19 @@ turn-returns-in_ok-expression-in-None t c =
 
 pub turn-returns-in_ok-emit-in-Some : goal.turn-returns-in_ok-emit-in-Some
 turn-returns-in_ok-emit-in-Some t c =
-    record { ok = on_ok_by _ _ _ _ (kept_if _ _ _ _ _ _ _ c.in-Some.condition _ c.args.collected.now.value c.args.collected.now.value _ _ c.in-Some.is c.in_ok-expression-in-Some.ensures.ok c.deref.ensures c.in_ok-position-in-Some.ensures.position c.in_ok-position-in-Some.ensures.ok c.in_ok-expression-in-Some-2.ensures.ok refl c.in_ok-emit-in-Some.ensures.ok c.behind.ensures refl) c.fill.ensures.ok }
+    record { ok = on_ok_by _ _ _ _ (kept_if _ _ _ _ _ _ _ c.in-Some.condition _ c.args.collected.now.value c.args.collected.now.value _ _ c.in-Some.is c.in_ok-expression-in-Some.ensures.ok c.deref.ensures c.in_ok-position-in-Some.ensures.position c.in_ok-position-in-Some.ensures.ok c.in_ok-expression-in-Some-2.ensures.ok refl c.in_ok-emit-in-Some.ensures.ok c.count_after.ensures refl) c.fill.ensures.ok }
 
-pub above-returns : goal.above-returns
-above-returns t c =
-    record { ok = on_ok_by _ _ _ _ (ap (λ count. lengthened c.args.self.now (arguments_code (arguments_of c.args.arguments.now) ++ instruction.TakeAbove count c.args.span ∷ [])) (arguments_counted c.args.arguments.now)) (taken_written _ _ _ _ _ c.args.arguments.now (λ x. arguments_code (arguments_of x)) (λ y. instruction.TakeAbove (length y) c.args.span) _ refl refl c.in_ok-arguments.ensures.ok c.emit.ensures.ok) }
+pub super_call-returns : goal.super_call-returns
+super_call-returns t c =
+    record { ok = on_ok_by _ _ _ _ (ap (λ count. lengthened c.args.self.now (arguments_code (arguments_of c.args.arguments.now) ++ instruction.TakeSuper count c.args.span ∷ [])) (arguments_counted c.args.arguments.now)) (taken_written _ _ _ _ _ c.args.arguments.now (λ x. arguments_code (arguments_of x)) (λ y. instruction.TakeSuper (length y) c.args.span) _ refl refl c.in_ok-arguments.ensures.ok c.emit.ensures.ok) }
 
-pub applied-returns : goal.applied-returns
-applied-returns t c =
-    record { ok = applied_written _ _ _ _ _ _ _ (out-Applied c.args.applied.now).arguments.items (λ all. call_of c.args.kind (out-Applied c.args.applied.now).name.now (argument_names all) c.args.span) _ c.as_slice-arguments.ensures.value c.as_slice-arguments.ensures.value c.in_ok-expression.ensures.ok c.in_ok-arguments.ensures.ok c.call.ensures.ok }
+pub application-returns : goal.application-returns
+application-returns t c =
+    record { ok = applied_written _ _ _ _ _ _ _ (out-Applied c.args.application.now).arguments.items (λ all. call_of c.args.kind (out-Applied c.args.application.now).name.now (argument_names all) c.args.span) _ c.as_slice-arguments.ensures.value c.as_slice-arguments.ensures.value c.in_ok-expression.ensures.ok c.in_ok-arguments.ensures.ok c.call.ensures.ok }
 
-pub called-returns : goal.called-returns
-called-returns t c =
-    record { ok = taken_written _ _ _ _ _ (out-Called c.args.called.now).arguments.items (λ x. arguments_code (arguments_of x)) (λ y. instruction.CallFunction (out-Called c.args.called.now).name.now (argument_names (arguments_of y)) c.args.span) _ c.as_slice-arguments.ensures.value c.as_slice-arguments.ensures.value c.in_ok-arguments.ensures.ok c.call.ensures.ok }
+pub function_call-returns : goal.function_call-returns
+function_call-returns t c =
+    record { ok = taken_written _ _ _ _ _ (out-Called c.args.function_call.now).arguments.items (λ x. arguments_code (arguments_of x)) (λ y. instruction.CallFunction (out-Called c.args.function_call.now).name.now (argument_names (arguments_of y)) c.args.span) _ c.as_slice-arguments.ensures.value c.as_slice-arguments.ensures.value c.in_ok-arguments.ensures.ok c.call.ensures.ok }
 
 pub tag-returns : goal.tag-returns
 tag-returns t c =

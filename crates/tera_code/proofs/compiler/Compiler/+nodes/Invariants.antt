@@ -21,11 +21,11 @@ decreases-body l = 6 * goal.size-body l + 3
 abbrev pub decreases-fork : goal.decreases-fork
 decreases-fork l = 6 * max (goal.size-fork l) (goal.size-fork (record l { body = l.other })) + 4
 
-abbrev pub decreases-turns : goal.decreases-turns
-decreases-turns l = 6 * max (goal.size-turns l) (goal.size-turns (record l { body = l.other })) + 4
+abbrev pub decreases-for_loop : goal.decreases-for_loop
+decreases-for_loop l = 6 * max (goal.size-for_loop l) (goal.size-for_loop (record l { body = l.other })) + 4
 
-abbrev pub decreases-captured : goal.decreases-captured
-decreases-captured l = 6 * goal.size-captured l + 4
+abbrev pub decreases-capture : goal.decreases-capture
+decreases-capture l = 6 * goal.size-capture l + 4
 
 abbrev pub decreases-section : goal.decreases-section
 decreases-section l = 6 * goal.size-section l + 5

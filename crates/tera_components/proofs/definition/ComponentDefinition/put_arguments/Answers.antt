@@ -21,8 +21,8 @@ loop-argument-preserved g c =
     let look : Name → Val = g.C.Implicits.implicit c.args.caller.now in
     let given : List (Name × Val) = named_arguments c.args.given.now in
     let name = c.in_ok-shared_name.field-0 in
-    let value = c.in_ok-shared.field-0 in
+    let value = c.in_ok-into_shared.field-0 in
     let named : name ≡ c.argument-item.result.name = sym (answered _ _ c.in_ok-shared_name.ensures) in
-    let shared : value ≡ c.in_ok-value.value = sym (answered _ _ c.in_ok-shared.ensures.value) in
+    let shared : value ≡ c.in_ok-value.value = sym (answered _ _ c.in_ok-into_shared.ensures.value) in
     c.loop-argument.invariant
     ∙ with_formals_next look given c.deref-argument-items.result.now c.loop-argument.argument-index c.argument-item.result c.loop-argument.context c.put.new.self name c.in_ok-value.value c.loop-argument-test.true c.argument-item.is c.in_ok-value.ensures named (c.in_ok-put.ensures.ok ∙ ap (λ v. put name v c.loop-argument.context) shared)

@@ -15,9 +15,9 @@ use Rattle.tera_machine.proofs.configuration.Configuration.start_or_execute.Goal
 use Rattle.tera_machine.proofs.configuration.Configuration.start_or_execute.Goals.{After-take}
 
 -- the operand that is taken is the target
-target : (g : Over) (c : After-take g) → c.take.result.value ≡ array (vals c.in-Some-items_of.items.now)
+target : (g : Over) (c : After-take g) → c.pop_top.result.value ≡ array (vals c.in-Some-items_of.items.now)
 target g c =
-    ap (λ a. a.value) (topmost_is c.args.self.now.operands c.top.result.now c.take.result c.take.new.self c.top.ensures c.take.ensures) ∙ sym c.value.ensures ∙ c.in-Some-items_of.ensures.1
+    ap (λ a. a.value) (topmost_is c.args.self.now.operands c.top.result.now c.pop_top.result c.pop_top.new.self c.top.ensures c.pop_top.ensures) ∙ sym c.value.ensures ∙ c.in-Some-items_of.ensures.1
 
 pub returns-in_default-clause-stands : goal.returns-in_default-clause-stands
 returns-in_default-clause-stands g c = alone_stands _ c.requires.there
@@ -40,13 +40,13 @@ pub returns-clause-stands : goal.returns-clause-stands
 returns-clause-stands g c =
     let old = config_of c.args.self.now in
     let here = here_of g.O.Objects.engine c.args.machine.now c.args.chunk.now.file c.args.self.now in
-    subst (λ x. Stands (start_at here c.args.at.now c.args.steps.now x) c.args.chunk.now.code c.put_loop-printed.new.at c.put_loop-printed.new.steps) (as_topped old c.take.result c.take.new.self c.take.ensures)
-    (c.put_loop-printed.ensures.stands here c.take.result (holding c.take.new.self old) (refl, refl, refl) (target g (goal.at.returns-clause-stands g c).After-take))
+    subst (λ x. Stands (start_at here c.args.at.now c.args.steps.now x) c.args.chunk.now.code c.write_loop-printed.new.at c.write_loop-printed.new.steps) (as_topped old c.pop_top.result c.pop_top.new.self c.pop_top.ensures)
+    (c.write_loop-printed.ensures.stands here c.pop_top.result (holding c.pop_top.new.self old) (refl, refl, refl) (target g (goal.at.returns-clause-stands g c).After-take))
 
 pub returns-clause-does : goal.returns-clause-does
 returns-clause-does g c =
     let old = config_of c.args.self.now in
     let here = here_of g.O.Objects.engine c.args.machine.now c.args.chunk.now.file c.args.self.now in
-    let new = saying c.put_loop-printed.new.texts.now (holding c.take.new.self old) in
-    let did = subst (λ x. Effected (done here c.args.chunk.now.code (suc (c.put_loop-printed.new.steps - c.args.steps.now)) c.args.at.now x) c.put_loop-printed.result new) (as_topped old c.take.result c.take.new.self c.take.ensures) (c.put_loop-printed.ensures.does here c.take.result (holding c.take.new.self old) (refl, refl, refl) (target g (goal.at.returns-clause-does g c).After-take)) in
-    (effected_same (done here c.args.chunk.now.code (suc (c.put_loop-printed.new.steps - c.args.steps.now)) c.args.at.now old) c.put_loop-printed.result new (record new { captures = c.put_loop-printed.new.texts.below }) did (on_ok_by c.put_loop-printed.result (λ e. ap (λ captures. record new { captures = captures }) (sym e)) c.put_loop-printed.ensures.below), (refl, on_ok c.put_loop-printed.result refl))
+    let new = saying c.write_loop-printed.new.texts.now (holding c.pop_top.new.self old) in
+    let did = subst (λ x. Effected (done here c.args.chunk.now.code (suc (c.write_loop-printed.new.steps - c.args.steps.now)) c.args.at.now x) c.write_loop-printed.result new) (as_topped old c.pop_top.result c.pop_top.new.self c.pop_top.ensures) (c.write_loop-printed.ensures.does here c.pop_top.result (holding c.pop_top.new.self old) (refl, refl, refl) (target g (goal.at.returns-clause-does g c).After-take)) in
+    (effected_same (done here c.args.chunk.now.code (suc (c.write_loop-printed.new.steps - c.args.steps.now)) c.args.at.now old) c.write_loop-printed.result new (record new { captures = c.write_loop-printed.new.texts.below }) did (on_ok_by c.write_loop-printed.result (λ e. ap (λ captures. record new { captures = captures }) (sym e)) c.write_loop-printed.ensures.below), (refl, on_ok c.write_loop-printed.result refl))

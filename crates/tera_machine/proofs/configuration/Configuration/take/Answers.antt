@@ -7,8 +7,8 @@ returns-in-Some-clause-stands g c = alone_stands _ c.requires.there
 pub returns-in-Some-as_include-clause-stands : goal.returns-in-Some-as_include-clause-stands
 returns-in-Some-as_include-clause-stands g c = alone_stands _ c.requires.there
 
-pub returns-in-Some-as_above-clause-stands : goal.returns-in-Some-as_above-clause-stands
-returns-in-Some-as_above-clause-stands g c = alone_stands _ c.requires.there
+pub returns-in-Some-as_super-clause-stands : goal.returns-in-Some-as_super-clause-stands
+returns-in-Some-as_super-clause-stands g c = alone_stands _ c.requires.there
 
 pub returns-in-Some-as_component-clause-stands : goal.returns-in-Some-as_component-clause-stands
 returns-in-Some-as_component-clause-stands g c = alone_stands _ c.requires.there

@@ -3,7 +3,7 @@ use Rattle.tera_errors.specs.Answer.{Tells}
 use Rattle.tera_errors.specs.Fault.{rendering_error}
 use Rattle.tera_errors.specs.Site.{Name}
 use Rattle.tera_meaning.specs.Whole.{fault_in}
-use Rattle.tera_machine.specs.declared.asked.Asked.TheVariants as asked
+use Rattle.tera_machine.specs.declared.requests.BlockRequest.TheVariants as asked
 use Rattle.tera_machine.specs.Bodies.{FindsBody, IsBody}
 use Rattle.tera_machine.specs.Config.{config_of}
 use Rattle.tera_machine.specs.Subject.{place_at, template_of}

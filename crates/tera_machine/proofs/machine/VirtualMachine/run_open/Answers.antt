@@ -50,20 +50,20 @@ overflow_add-at g c = omega (arith, skip_fits g.O.Objects.engine c.requires.engi
 pub overflow_add-at-in-To : goal.overflow_add-at-in-To
 overflow_add-at-in-To g c = omega (arith, to_fits g.O.Objects.engine c.requires.engine c.bodies.invariant.1.1 c.in-Some.ensures.count c.perform.ensures.stands c.perform.new.self c.in-Ok-perform.flow c.in-Ok-perform.ensures.does c.in-To.is, c.in-Some.ensures.small)
 
-pub returns-in-Err-take-clause-bounded : goal.returns-in-Err-take-clause-bounded
-returns-in-Err-take-clause-bounded g c = λ h. (few g.O.Objects.engine c.requires.engine c.bodies.invariant.1.1 c.in-Some.ensures.count c.perform.ensures.stands).1
+pub returns-in-Err-pop_top-clause-bounded : goal.returns-in-Err-pop_top-clause-bounded
+returns-in-Err-pop_top-clause-bounded g c = λ h. (few g.O.Objects.engine c.requires.engine c.bodies.invariant.1.1 c.in-Some.ensures.count c.perform.ensures.stands).1
 
-pub returns-in-Err-take-clause-ends : goal.returns-in-Err-take-clause-ends
-returns-in-Err-take-clause-ends g c = take_broke g.O.Objects.engine c.requires.engine c.bodies.invariant.1.1 c.in-Some.ensures.count c.perform.ensures.stands c.perform.new.self c.in-Ok-perform.flow c.in-Ok-perform.ensures.does (ap flow_of c.in-Ask.is) c.bodies.body c.bodies.invariant.0 c.take.new.self _ _ c.in-Err-take.error c.take.new.configuration c.in-Err-take.ensures
+pub returns-in-Err-pop_top-clause-ends : goal.returns-in-Err-pop_top-clause-ends
+returns-in-Err-pop_top-clause-ends g c = take_broke g.O.Objects.engine c.requires.engine c.bodies.invariant.1.1 c.in-Some.ensures.count c.perform.ensures.stands c.perform.new.self c.in-Ok-perform.flow c.in-Ok-perform.ensures.does (ap flow_of c.in-Call.is) c.bodies.body c.bodies.invariant.0 c.pop_top.new.self _ _ c.in-Err-pop_top.error c.pop_top.new.configuration c.in-Err-pop_top.ensures
 
 pub bodies-smaller : goal.bodies-smaller
-bodies-smaller g c = let l = few g.O.Objects.engine c.requires.engine c.bodies.invariant.1.1 c.in-Some.ensures.count c.perform.ensures.stands in omega (arith, l.0, l.1, ap length c.in-Ok-take.ensures.is)
+bodies-smaller g c = let l = few g.O.Objects.engine c.requires.engine c.bodies.invariant.1.1 c.in-Some.ensures.count c.perform.ensures.stands in omega (arith, l.0, l.1, ap length c.in-Ok-pop_top.ensures.is)
 
 pub bodies-preserved : goal.bodies-preserved
 bodies-preserved g c =
     let inv = c.bodies.invariant in
-    let t = c.in-Ok-take.ensures in
-    (c.chunk-chunk-in-Ask.ensures, (t.belong, rw c.chunk-chunk-in-Ask.ensures (goes_in g.O.Objects.engine c.requires.engine inv.1.1 c.in-Some.ensures.count c.perform.ensures.stands c.perform.new.self c.in-Ok-perform.flow c.in-Ok-perform.ensures.does (ap flow_of c.in-Ask.is) c.bodies.body inv.0 t refl inv.1.0)))
+    let t = c.in-Ok-pop_top.ensures in
+    (c.chunk-chunk-in-Call.ensures, (t.belong, rw c.chunk-chunk-in-Call.ensures (goes_in g.O.Objects.engine c.requires.engine inv.1.1 c.in-Some.ensures.count c.perform.ensures.stands c.perform.new.self c.in-Ok-perform.flow c.in-Ok-perform.ensures.does (ap flow_of c.in-Call.is) c.bodies.body inv.0 t refl inv.1.0)))
 
 pub returns-then-len-eq0-clause-ends : goal.returns-then-len-eq0-clause-ends
 returns-then-len-eq0-clause-ends g c = all_over c.bodies.invariant.1.1 c.in_default.ensures.found c.in_default.ensures.count (sym c.len.ensures.count ∙ c.if-len-eq0.true)
@@ -88,7 +88,7 @@ bodies-preserved-in_default g c =
     let g' = c.bodies.invariant.1.1 in
     (c.chunk-chunk-in_default.ensures, (belong_again g' c.in_default.ensures.found c.in_default.ensures.count c.in-Ok.ensures.ok, rw c.chunk-chunk-in_default.ensures (goes_out g' c.in_default.ensures.found c.in_default.ensures.count c.in-Ok.ensures.ok)))
 
-pub take-requires-clause-takes : goal.take-requires-clause-takes
-take-requires-clause-takes g c =
+pub pop_top-requires-clause-takes : goal.pop_top-requires-clause-takes
+pop_top-requires-clause-takes g c =
     let inv = c.bodies.invariant in
-    takes_requested g.O.Objects.engine c.requires.engine inv.1.1 c.in-Some.ensures.count c.perform.ensures.stands c.perform.new.self c.in-Ok-perform.flow c.in-Ok-perform.ensures.does (ap flow_of c.in-Ask.is) c.bodies.body inv.0 c.in-Ask.request refl
+    takes_requested g.O.Objects.engine c.requires.engine inv.1.1 c.in-Some.ensures.count c.perform.ensures.stands c.perform.new.self c.in-Ok-perform.flow c.in-Ok-perform.ensures.does (ap flow_of c.in-Call.is) c.bodies.body inv.0 c.in-Call.request refl

@@ -6,8 +6,8 @@ use Rattle.tera_registry.proofs.Ancestors.{kept-climbable}
 use Rattle.tera_registry.proofs.Counted.{entry-within, first-within}
 use Rattle.tera_registry.proofs.templates.Templates.first_number.Goals as goal
 
-pub first-requires : goal.first-requires
-first-requires g c =
+pub first_definer-requires : goal.first_definer-requires
+first_definer-requires g c =
     let self = c.args.self.now in (
       kept-climbable g.registry self.all.items c.as_slice.result.now self.prefixes.items self.ups.items c.as_slice-2.result.now c.requires.0 c.as_slice.ensures.value c.as_slice-2.ensures.value self.rises self.faultless self.placed,
       subst (λ ts. c.args.from < length ts) (sym c.as_slice.ensures.value) c.requires.1,

@@ -36,14 +36,14 @@ invariant_of-self-in-Continue-1 c =
     let h : position_from 0 few c.args.frame c.args.layer c.args.name ≡ None = search rules in
     let made = with_binding items c.args.frame c.args.layer c.args.name c.args.value in
     let last = c.end_with-self-inside.result in
-    ends-alike _ made last.frame last.layer (c.in_ok-put_behind-in-None.ensures.ok h)
+    ends-alike _ made last.frame last.layer (c.in_ok-append-in-None.ensures.ok h)
     (ends_of made made last (end_with c.args.frame c.args.layer end) refl c.end_with-self-inside.ensures (ends_put items c.args.frame c.args.layer end c.args.name c.args.value c.self.invariant))
 
-pub invariant_of-self-in_err-put_behind-in-None : goal.invariant_of-self-in_err-put_behind-in-None
-invariant_of-self-in_err-put_behind-in-None c =
+pub invariant_of-self-in_err-append-in-None : goal.invariant_of-self-in_err-append-in-None
+invariant_of-self-in_err-append-in-None c =
     let items = c.self.inside.few.items ++ c.self.inside.others in
     let end = c.self.inside.end in
-    ends_of _ items c.end_with-self-inside.result (end_with c.args.frame c.args.layer end) c.in_err-put_behind-in-None.ensures.err c.end_with-self-inside.ensures
+    ends_of _ items c.end_with-self-inside.result (end_with c.args.frame c.args.layer end) c.in_err-append-in-None.ensures.err c.end_with-self-inside.ensures
     (ends-end_with items c.args.frame c.args.layer end c.self.invariant)
 
 pub returns-in-Some-clause-ok : goal.returns-in-Some-clause-ok
@@ -57,7 +57,7 @@ returns-in-Some-clause-ok c =
     ∙ with-first 0 c.in-Some.at few others c.args.frame c.args.layer c.args.name c.args.value h
     ∙ ap (λ bs. with_binding bs c.args.frame c.args.layer c.args.name c.args.value) c.self.view_is)
 
-pub returns-in_ok-put_behind-in-None-clause-ok : goal.returns-in_ok-put_behind-in-None-clause-ok
-returns-in_ok-put_behind-in-None-clause-ok c =
+pub returns-in_ok-append-in-None-clause-ok : goal.returns-in_ok-append-in-None-clause-ok
+returns-in_ok-append-in-None-clause-ok c =
     let h : position_from 0 c.self.inside.few.items c.args.frame c.args.layer c.args.name ≡ None = search rules in
-    λ f l. c.in_ok-put_behind-in-None.ensures.ok h f l ∙ ap (λ bs. layer_of (with_binding bs c.args.frame c.args.layer c.args.name c.args.value) f l) c.self.view_is
+    λ f l. c.in_ok-append-in-None.ensures.ok h f l ∙ ap (λ bs. layer_of (with_binding bs c.args.frame c.args.layer c.args.name c.args.value) f l) c.self.view_is

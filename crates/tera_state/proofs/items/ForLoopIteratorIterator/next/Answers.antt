@@ -1,5 +1,5 @@
 use Rattle.std.proofs.Common.{rules, arith, ◌+◌}
-use Rattle.tera_state.specs.Found.{found_value}
+use Rattle.tera_state.specs.FoundValue.{found_value}
 use Rattle.tera_state.specs.Opened.{walked}
 use Rattle.tera_state.proofs.Walked.{drop-lent}
 use Rattle.tera_state.proofs.items.ForLoopIteratorIterator.next.Goals as goal

@@ -12,5 +12,5 @@ returns-in_default c =
     let n = c.args.name.now in
     let s = c.args.self.now in
     ap (λ o. unwrap_or o undefined)
-    (innermost_first c.look_innermost.result n (frame_of s.frame.standing s.below) (above_of s.bindings s.below) (variables_of s) c.in_default.not-Nothing
+    (innermost_first c.look_innermost.result n (frame_of s.frame.standing s.below) (above_of s.bindings s.below) (variables_of s) c.in_default.not-Unbound
     (c.look_innermost.ensures ∙ ap (λ k. in_innermost n (turns_of s.bindings k s.frame.loops)) c.len-height.ensures.count))

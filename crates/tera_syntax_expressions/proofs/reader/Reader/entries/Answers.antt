@@ -12,7 +12,7 @@ use Rattle.tera_syntax_expressions.proofs.reader.Reader.entries.Goals as goal
 
 -- an entry was read behind those that were found: what the loop stands for is what is behind it
 behind-entry : (g : Over) (c : After-max-depth g) → Behind (entries_from c.args.self.now.limit (expr c.args.self.now.below) (left (input c.args.tokens.now)) NoEntries 0 (input c.args.tokens.now)) RightBrace
-    (λ (p : Entries × ℕ). entries_from c.args.self.now.limit (expr c.args.self.now.below) (c.left-round-end.result - (c.loop-round._round + 1)) p.0 p.1) (entries_of c.entry.new.found.items, c.max-depth.result) (input c.entry.new.tokens)
+    (λ (p : Entries × ℕ). entries_from c.args.self.now.limit (expr c.args.self.now.below) (c.count_left-round-end.result - (c.loop-round._round + 1)) p.0 p.1) (entries_of c.entry.new.found.items, c.max-depth.result) (input c.entry.new.tokens)
 behind-entry g c =
     let x = c.in-Ok.ensures in
     entries_read c.args.self.now.limit (expr c.args.self.now.below) _ _ (entries_of c.loop-round.found.items) c.loop-round.depth (input c.loop-round.tokens) c.loop-round-test.true c.loop-round.invariant

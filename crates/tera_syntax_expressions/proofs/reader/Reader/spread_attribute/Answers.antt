@@ -10,7 +10,7 @@ use Rattle.tera_syntax_expressions.proofs.reader.Reader.spread_attribute.Goals a
 pub returns : goal.returns
 returns g c =
     let all = c.args.found.now.items in
-    let x = c.in-Ok-braced.x in
-    let j = input c.braced.new.tokens in
-    spread_read c.args.self.now.limit (expr c.args.self.now.below) (entries_of all) (input c.args.tokens.now) (input c.expect.new.self) j c.in-Ok.field-0 (deep_of x) c.in-Ok.ensures c.in-Ok-braced.ensures
+    let x = c.in-Ok-braces.x in
+    let j = input c.braces.new.tokens in
+    spread_read c.args.self.now.limit (expr c.args.self.now.below) (entries_of all) (input c.args.tokens.now) (input c.expect.new.self) j c.in-Ok.field-0 (deep_of x) c.in-Ok.ensures c.in-Ok-braces.ensures
     ∙ ap (λ e. Some ((e, x.depth), j)) (sym (ap entries_of c.in_ok-push.ensures.items ∙ entries_of-push all _))

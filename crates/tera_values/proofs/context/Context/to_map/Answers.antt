@@ -10,7 +10,7 @@ loop-name-init c =
 
 pub loop-name-preserved : goal.loop-name-preserved
 loop-name-preserved c =
-    filled_next c.args.self.now c.loop-name.all c.insert.new.self (string_bytes c.in-Some.name, c.in-Some.value) (texts c.next.new.self) _ (ap texts c.in-Some.ensures.steps) c.ordered.ensures.ascending c.loop-name.invariant (search rules)
+    filled_next c.args.self.now c.loop-name.all c.insert.new.self (string_bytes c.in-Some.name, c.in-Some.value) (texts c.next.new.self) _ (ap texts c.in-Some.ensures.steps) c.to_sorted_map.ensures.ascending c.loop-name.invariant (search rules)
 
 pub returns : goal.returns
 returns c =

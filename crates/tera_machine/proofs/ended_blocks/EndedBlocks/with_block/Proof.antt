@@ -1,0 +1,52 @@
+-- `with` makes the empty struct. Its ghost field is the one that the clause names.
+use Rattle.std.proofs.Common.{List, [], ◌∷◌, ◌++◌, ◌<◌, ◌^◌, length, refl}
+use Rattle.std.proofs.raw_atomic.Walks.{proved}
+use mir.Syntax.{named}
+use mir.Val.{Val, vstruct, vnil}
+use base.Fml.{ftrue}
+use types.Kit.{‵, raw, ◌⊛◌, keep, ◌$◌, ◌∵◌, !, qed, move, split, suffices, done}
+use types.Part.{agg}
+use types.Run.{no_more, returns, enter}
+use types.ByLocal.{alloc_all, pass_all, free_all, look_at, sets}
+use denote.Builtin.{u8}
+use denote.Exit.{yes}
+use denote.RattleType.{owns}
+use denote.Ref.{shr_vals, shr_Tells}
+use denote.Shadow.{pure_i}
+use denote.Signature.{plain, types_at}
+use denote.Slice.{shr_slice_vals, shr_slice_Tells}
+use denote.Triple.Entry.{alive}
+use denote.Triple.Walked.{says, Stays, stay_none_ref, stay_none_slice, Goes-none_ref, Goes-none_slice, ends_at}
+use Rattle.tera_machine.specs.contracts.ended_blocks.EndedBlocks as trace
+use Rattle.tera_machine.specs.contracts.ended_blocks.EndedBlocks.with_block as f
+use Rattle.tera_machine.proofs.ended_blocks.EndedBlocks.with_block.Statement.{statement}
+use Rattle.tera_machine.proofs.ended_blocks.EndedBlocks.with_block.Code as code
+
+-- what is passed stays as it was
+abbrev stayed : Stays f.ended.signature.params f.ended.kept
+stayed = (
+  stay_none_ref (0 ∷ []) tt (plain (λ _. trace.the_row)) yes,
+  (stay_none_ref (1 ∷ []) tt (plain (λ _. trace.the_row)) yes, (stay_none_slice (2 ∷ []) tt (plain (λ _. u8)) yes, (stay_none_slice (3 ∷ []) tt (plain (λ _. u8)) yes, tt))),
+)
+
+pub with_spec : {M : Type 1} → statement M
+with_spec 𝓤 𝓛 𝓜 𝓡 wired =
+    let c = f.clauses 𝓛 𝓜.mem 𝓡.returns in
+    proved 𝓛 f.ended stayed c 𝓜 𝓡 (
+      Goes-none_ref 𝓛 4 (0 ∷ []) tt (plain (λ _. trace.the_row)) yes,
+      (Goes-none_ref 𝓛 4 (1 ∷ []) tt (plain (λ _. trace.the_row)) yes, (Goes-none_slice 𝓛 4 (2 ∷ []) tt (plain (λ _. u8)) yes, (Goes-none_slice 𝓛 4 (3 ∷ []) tt (plain (λ _. u8)) yes, tt))),
+    )
+    f.Key.name code.function (code.unfolded 𝓤 𝓛.H 𝓜 𝓡 wired)
+    (λ κs. (shr_vals, (shr_vals, (shr_slice_vals, (shr_slice_vals, tt)))))
+    (λ κs. (shr_Tells (named 0) κs.0 trace.the_row, (shr_Tells (named 1) κs.1.0 trace.the_row, (shr_slice_Tells (named 2) κs.1.1.0 u8, (shr_slice_Tells (named 3) κs.1.1.1.0 u8, tt)))))
+    (λ κs qs bounds a n are.
+    let vss : List Val × (List Val × (List Val × (List Val × Unit {0}))) = (shr_vals a.0, (shr_vals a.1.0, (shr_slice_vals a.1.1.0, (shr_slice_vals a.1.1.1.0, tt)))) in
+    let count : length a.1.1.0.now < 2 ^ 64 = are.1.1.0.0.1.0 in
+    let count2 : length a.1.1.1.0.now < 2 ^ 64 = are.1.1.1.0.0.1.0 in
+    let made : trace.the_row.Denot = record { all = a.0.now.all ++ (a.1.0.now.all ++ (a.1.1.0.now, a.1.1.1.0.now) ∷ []) } in
+    qed 𝓛 ((raw (alive 𝓛 f.signature κs qs) ⊛ ‵ (owns (types_at f.signature.params κs) a vss)) ∷ ‵ ftrue ∷ []) ∵ split ! $ keep ! (0 ∷ 1 ∷ []) $
+    enter ! _ _ _ _ _ $ alloc_all ! (λ l. pass_all ! refl ((tt, tt), ((tt, tt), ((tt, (tt, (record { fits = count }, tt))), ((tt, (tt, (record { fits = count2 }, tt))), tt)))) $ sets ! (agg ! (no_more !)) refl (tt, tt) $
+    returns ! (look_at ! 0 refl) $ free_all ! refl $
+    suffices ! _ (ends_at 𝓛 f.ended stayed c ((κs, qs, bounds, a, vss), n) (vstruct vnil) made (tt, (tt, (tt, (tt, tt)))) (tt, (tt, (tt, (tt, tt))))) $ says ! refl $
+    pure_i ! (trace.the_row.own_val made (vstruct vnil ∷ [])) ((λ vss. (tt, tt)), tt) ((tt, (refl, tt)), tt) $
+    move ! (1 ∷ 2 ∷ 0 ∷ []) $ done !))

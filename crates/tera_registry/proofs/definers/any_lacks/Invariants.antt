@@ -1,9 +1,0 @@
-use Rattle.tera_meaning.specs.Accepted.{lacks_something}
-use Rattle.tera_registry.proofs.Absent.{NoneYet}
-use Rattle.tera_registry.proofs.definers.any_lacks.Given as goal
-
-abbrev pub invariant-loop-position : goal.invariant-loop-position
-invariant-loop-position g l = NoneYet (lacks_something g.registry) g.registry.templates l.position
-
-abbrev pub ghost-lacks : goal.ghost-lacks
-ghost-lacks g a = g.registry

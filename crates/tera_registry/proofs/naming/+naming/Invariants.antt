@@ -1,8 +1,0 @@
-use Rattle.std.proofs.Common.{◌≡◌, ◌++◌, drop}
-use Rattle.tera_syntax_tree.specs.View.{nodes_of}
-use Rattle.tera_registry.specs.Naming.{named}
-use Rattle.tera_registry.proofs.naming.+naming.Given as goal
-
-abbrev pub invariant-add_all-loop-node : goal.invariant-add_all-loop-node
-invariant-add_all-loop-node l =
-    l.found.items ++ named l.naming (nodes_of (drop l.node-index l.nodes)) ≡ l.initial.found.items ++ named l.naming (nodes_of l.nodes)

@@ -1,7 +1,0 @@
-use Rattle.std.proofs.Common.{◌≡◌, ◌++◌, drop}
-use Rattle.tera_registry.specs.Needs.{code_needs}
-use Rattle.tera_registry.proofs.needs.add_needs.Given as goal
-
-abbrev pub invariant-loop-position : goal.invariant-loop-position
-invariant-loop-position l =
-    l.needs.items ++ code_needs (drop l.position l.chunk.code) ≡ l.initial.needs.items ++ code_needs l.chunk.code

@@ -1,0 +1,7 @@
+use Rattle.std.proofs.Common.{[]}
+use Rattle.tera_values.proofs.Named.{texts}
+use Rattle.tera_values.proofs.Contents.{IsPut}
+use Rattle.tera_values.proofs.context.Context.to_sorted_map.Given as goal
+
+abbrev pub invariant-loop-name : goal.invariant-loop-name
+invariant-loop-name l = IsPut l.name-iterator (texts l.to_sorted_map.entries) l.initial.name-iterator []

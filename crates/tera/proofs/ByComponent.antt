@@ -16,8 +16,8 @@ use Rattle.tera_components.specs.Definition.{Definition, definition_of, info_of,
 use Rattle.tera_meaning.specs.Registry.{Entry, Registry}
 use Rattle.tera_meaning.specs.Components.{Component, component_named, component_in, definer_of, component}
 use Rattle.tera_meaning.specs.Rendering.{outermost, within_context_in, render_found_component_in, render_component, render_component_in}
-use Rattle.tera_marks.specs.Origin.{Traces}
-use Rattle.tera_marks.proofs.Traced.{components_are_traced}
+use Rattle.tera_meaning.specs.Marks.Origin.{Traces}
+use Rattle.tera_meaning.proofs.Marks.Traced.{components_are_traced}
 use Rattle.tera_registry.specs.declared.templates.Defined.{Defined}
 use Rattle.tera_registry.specs.Templates.{IsKept, IsDefined}
 use Rattle.tera.specs.Registry.{subject_of_component, text_meant, info_at}

@@ -15,8 +15,8 @@ use Rattle.tera_meaning.specs.Lineage.{Definer, definers}
 use Rattle.tera_meaning.specs.Rendering.{alone, autoescapes, text_of, template_meaning, render, render_in, render_template, block_among, render_template_block, render_block, render_block_in}
 use Rattle.tera_code.specs.Code.{listing_of, nodes_code}
 use Rattle.tera_code.specs.Listing.{Listing}
-use Rattle.tera_marks.specs.Origin.{Traces}
-use Rattle.tera_marks.proofs.Traced.{templates_are_traced, blocks_are_traced}
+use Rattle.tera_meaning.specs.Marks.Origin.{Traces}
+use Rattle.tera_meaning.proofs.Marks.Traced.{templates_are_traced, blocks_are_traced}
 use Rattle.tera_machine.specs.Subject.{meant}
 use Rattle.tera_registry.specs.HandedOut.{IsRootOf}
 use Rattle.tera_registry.specs.Templates.{Leads, with_templates, definers_of}

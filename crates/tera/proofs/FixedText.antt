@@ -12,9 +12,9 @@ use Rattle.tera_syntax.proofs.TreeRead.{answers_as_read}
 use Rattle.tera_meaning.specs.Registry.{Registry}
 use Rattle.tera_meaning.specs.Components.{one_off_name}
 use Rattle.tera_meaning.specs.Rendering.{render_str}
-use Rattle.tera_marks.specs.Renderings.{Rendering, of_text, sources}
-use Rattle.tera_marks.specs.Foreign.{HasOwnMarkup, MarksNoneSafe}
-use Rattle.tera_marks.proofs.Foreign.{markup_is_the_templates}
+use Rattle.tera_meaning.specs.Marks.Renderings.{Rendering, of_text, sources}
+use Rattle.tera_meaning.specs.Marks.Foreign.{HasOwnMarkup, MarksNoneSafe}
+use Rattle.tera_meaning.proofs.Marks.Foreign.{markup_is_the_templates}
 use Rattle.tera.specs.FixedText.{text_rendered, TextMarksNoneSafe, TextHasOwnMarkup}
 use Rattle.tera.specs.PageLaws.{AnswersAsComputed, MarkupIsTheTexts}
 use Rattle.tera.specs.Rendering.{OneOff}

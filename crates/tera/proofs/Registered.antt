@@ -5,10 +5,10 @@ use Rattle.tera_errors.specs.Site.{Text}
 use Rattle.tera_syntax_tree.specs.Delimiters.{Delims, standard}
 use Rattle.tera_values.specs.Val.{Val}
 use Rattle.tera_values.specs.Named.{Named}
-use Rattle.tera_objects.specs.Engine.{Engine, standard_engine}
-use Rattle.tera_objects.specs.Kept.{Meanings, engine_of}
-use Rattle.tera_objects.specs.Moving.{with_those_of, MovedInPart}
-use Rattle.tera_objects.specs.declared.caller_objects.ObjectsOver.{ObjectsOver}
+use Rattle.tera_state.specs.Engine.{Engine, standard_engine}
+use Rattle.tera_state.specs.Kept.{Meanings, engine_of}
+use Rattle.tera_state.specs.Moving.{with_those_of, MovedInPart}
+use Rattle.tera_state.specs.declared.objects.caller_objects.ObjectsOver.{ObjectsOver}
 use Rattle.tera_meaning.specs.Registry.{Template, Registry, new_registry, standard_suffixes}
 use Rattle.tera.specs.declared.engine.TeraOver.{TeraOver}
 use Rattle.tera.specs.Configuring.{Configures}

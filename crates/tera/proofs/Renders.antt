@@ -21,8 +21,8 @@ use Rattle.tera_machine.specs.declared.configuration.Configuration.{Configuratio
 use Rattle.tera.specs.Registry.{subject_beside, text_meant, is_there, tree_beside, one_off_meant}
 use Rattle.tera.specs.Rendering.{OneOff, allowed}
 use Rattle.tera_meaning.specs.Rendering.{has_a_block, text_of, one_off_text, render_str, render_str_in}
-use Rattle.tera_marks.specs.Origin.{Traces}
-use Rattle.tera_marks.proofs.Traced.{markup_is_traced}
+use Rattle.tera_meaning.specs.Marks.Origin.{Traces}
+use Rattle.tera_meaning.proofs.Marks.Traced.{markup_is_traced}
 
 -- an answer that is no fault
 abbrev pub fine : {A : Type 0} → A → Result A Fault

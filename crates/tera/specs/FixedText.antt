@@ -8,8 +8,8 @@ use Rattle.tera_values.specs.Named.{Named}
 use Rattle.tera_syntax.specs.TreeRead.{tree_read}
 use Rattle.tera_meaning.specs.Registry.{Registry}
 use Rattle.tera_meaning.specs.Rendering.{render_str}
-use Rattle.tera_marks.specs.Renderings.{Rendering, of_text, sources}
-use Rattle.tera_marks.specs.Foreign.{HasOwnMarkup, MarksNoneSafe}
+use Rattle.tera_meaning.specs.Marks.Renderings.{Rendering, of_text, sources}
+use Rattle.tera_meaning.specs.Marks.Foreign.{HasOwnMarkup, MarksNoneSafe}
 
 -- the answer that its tree means, if the text spells one
 abbrev pub text_rendered : Registry → Text → Named Val → Bool → Option (Result Text Fault)

@@ -32,27 +32,27 @@ pub use Rattle.tera_syntax.specs.Spells
 pub use Rattle.tera_syntax.specs.Reads
 pub use Rattle.tera_syntax.specs.TreeRead
 pub use Rattle.tera_syntax.specs.Laws as SyntaxLaws
-pub use Rattle.tera_variables.specs.Free
-pub use Rattle.tera_variables.specs.Sets
+pub use Rattle.tera_syntax_tree.specs.Free
+pub use Rattle.tera_syntax_tree.specs.Sets
 -- values, contexts and arguments
-pub use Rattle.tera_values_data.specs.Alphabet
-pub use Rattle.tera_values_data.specs.Val
-pub use Rattle.tera_values_data.specs.Coding
-pub use Rattle.tera_values_data.specs.View as ValueView
-pub use Rattle.tera_values_data.specs.Shape
-pub use Rattle.tera_values_data.specs.Falls
-pub use Rattle.tera_values_data.specs.Keys
-pub use Rattle.tera_values_data.specs.Index
-pub use Rattle.tera_values_data.specs.Access
-pub use Rattle.tera_values_data.specs.Items
-pub use Rattle.tera_values_data.specs.Paths
-pub use Rattle.tera_values_data.specs.Slices
-pub use Rattle.tera_values_data.specs.Order
-pub use Rattle.tera_values_data.specs.Finite
-pub use Rattle.tera_values_data.specs.Printed
-pub use Rattle.tera_values_data.specs.Escape
-pub use Rattle.tera_values_data.specs.Laws as OrderLaws
-pub use Rattle.tera_values_data.specs.Promises
+pub use Rattle.tera_value_types.specs.Alphabet
+pub use Rattle.tera_value_types.specs.Val
+pub use Rattle.tera_value_types.specs.Coding
+pub use Rattle.tera_value_types.specs.View as ValueView
+pub use Rattle.tera_value_types.specs.Shape
+pub use Rattle.tera_value_types.specs.Falls
+pub use Rattle.tera_value_types.specs.Keys
+pub use Rattle.tera_value_types.specs.Index
+pub use Rattle.tera_value_types.specs.Access
+pub use Rattle.tera_value_types.specs.Items
+pub use Rattle.tera_value_types.specs.Paths
+pub use Rattle.tera_value_types.specs.Slices
+pub use Rattle.tera_value_types.specs.Order
+pub use Rattle.tera_value_types.specs.Finite
+pub use Rattle.tera_value_types.specs.Printed
+pub use Rattle.tera_value_types.specs.Escape
+pub use Rattle.tera_value_types.specs.Laws as OrderLaws
+pub use Rattle.tera_value_types.specs.Promises
 pub use Rattle.tera_values.specs.Named
 pub use Rattle.tera_values.specs.Names
 pub use Rattle.tera_values.specs.Naming
@@ -83,15 +83,15 @@ pub use Rattle.tera_state.specs.Scopes
 pub use Rattle.tera_state.specs.FoundValue
 pub use Rattle.tera_state.specs.Rendered
 pub use Rattle.tera_state.specs.View
-pub use Rattle.tera_objects.specs.Engine
-pub use Rattle.tera_objects.specs.Calling
-pub use Rattle.tera_objects.specs.Called
-pub use Rattle.tera_objects.specs.Table
-pub use Rattle.tera_objects.specs.Taken
-pub use Rattle.tera_objects.specs.Kept
-pub use Rattle.tera_objects.specs.Moving
-pub use Rattle.tera_objects.specs.Stored
-pub use Rattle.tera_objects.specs.Laws as ObjectLaws
+pub use Rattle.tera_state.specs.Engine
+pub use Rattle.tera_state.specs.Calling
+pub use Rattle.tera_state.specs.Called
+pub use Rattle.tera_state.specs.Table
+pub use Rattle.tera_state.specs.Taken
+pub use Rattle.tera_state.specs.Kept
+pub use Rattle.tera_state.specs.Moving
+pub use Rattle.tera_state.specs.Stored
+pub use Rattle.tera_state.specs.Laws as ObjectLaws
 -- components
 pub use Rattle.tera_components.specs.Context as ComponentContext
 pub use Rattle.tera_components.specs.Definition
@@ -112,10 +112,10 @@ pub use Rattle.tera_meaning.specs.Variables
 pub use Rattle.tera_meaning.specs.Laws as MeaningLaws
 pub use Rattle.tera_meaning.specs.Circles
 pub use Rattle.tera_meaning.specs.BodyLaws
-pub use Rattle.tera_marks.specs.Origin
-pub use Rattle.tera_marks.specs.Sources
-pub use Rattle.tera_marks.specs.Renderings
-pub use Rattle.tera_marks.specs.Foreign
+pub use Rattle.tera_meaning.specs.Marks.Origin
+pub use Rattle.tera_meaning.specs.Marks.Sources
+pub use Rattle.tera_meaning.specs.Marks.Renderings
+pub use Rattle.tera_meaning.specs.Marks.Foreign
 -- code, the templates that are kept, and the machine
 pub use Rattle.tera_code.specs.Constant
 pub use Rattle.tera_code.specs.Packed

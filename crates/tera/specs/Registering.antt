@@ -1,10 +1,10 @@
 -- What registering makes of a registry.
 use Rattle.std.specs.Prelude.{◌≡◌, Some, None, Result, Ok, Err}
 use Rattle.tera_errors.specs.Answer.{SeenError}
-use Rattle.tera_objects.specs.Engine.{Engine}
-use Rattle.tera_objects.specs.Kept.{Meanings, engine_of}
-use Rattle.tera_objects.specs.Moving.{with_those_of, MovedInPart}
-use Rattle.tera_objects.specs.declared.caller_objects.ObjectsOver.{ObjectsOver}
+use Rattle.tera_state.specs.Engine.{Engine}
+use Rattle.tera_state.specs.Kept.{Meanings, engine_of}
+use Rattle.tera_state.specs.Moving.{with_those_of, MovedInPart}
+use Rattle.tera_state.specs.declared.objects.caller_objects.ObjectsOver.{ObjectsOver}
 use Rattle.tera_meaning.specs.Registry.{Registry}
 use Rattle.tera.specs.Configuring.{Configures}
 use Rattle.tera.specs.Registry.{registry_of}

@@ -7,7 +7,7 @@ use Rattle.tera_values.specs.Named.{Named}
 use Rattle.tera_syntax_tree.specs.Delimiters.{delimiters_of}
 use Rattle.tera_syntax_tree.specs.Tree.{Nodes, NoNodes, Tree}
 use Rattle.tera_state.specs.Scope.{Around, nothing_set}
-use Rattle.tera_objects.specs.Engine.{Engine}
+use Rattle.tera_state.specs.Engine.{Engine}
 use Rattle.tera_components.specs.Definition.{Info, definition_of, info_of}
 use Rattle.tera_meaning.specs.Run.{begun}
 pub use Rattle.tera_meaning.specs.Registry.{Entry, Registry, new_registry, standard_suffixes}

@@ -13,7 +13,7 @@ use Rattle.tera_meaning.specs.Registry.{Entry, Registry}
 use Rattle.tera_meaning.specs.Components.{one_off_name}
 use Rattle.tera_meaning.specs.Resolve.{resolve}
 pub use Rattle.tera_meaning.specs.Rendering.{autoescapes, has_a_block, render, render_in, render_block, render_block_in, render_component, render_component_in, render_str, render_str_in}
-use Rattle.tera_marks.specs.Origin.{Traces}
+use Rattle.tera_meaning.specs.Marks.Origin.{Traces}
 
 -- whether a text may be rendered beside the registry: it extends no template and has no block
 abbrev pub allowed : Tree → Result (Unit {0}) Fault

@@ -8,7 +8,7 @@ use crate::engine::TeraOver;
 use crate::rendering::Source;
 use std::marker::Brand;
 use tera_code::{Allowance, Budget, Steps, Tally};
-use tera_objects::Objects;
+use tera_state::Objects;
 use tera_values::{Context, TeraResult};
 
 /// The name of a template. A function whose ghost members a call picks takes no `&str` itself.

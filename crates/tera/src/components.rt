@@ -17,9 +17,8 @@ use std::alloc::Global;
 use tera_code::{Steps, Tally};
 use tera_components::ComponentInfo;
 use tera_machine::VirtualMachine;
-use tera_objects::Objects;
 use tera_registry::Defined;
-use tera_state::Scopes;
+use tera_state::{Objects, Scopes};
 use tera_values::{Context, TeraResult, Value};
 
 impl<O: Objects> TeraOver<O> {

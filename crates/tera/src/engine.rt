@@ -13,8 +13,8 @@ ghost use Rattle.tera.specs.Lent.{texts_of};
 use crate::texts::{copies_of, standard_suffixes};
 use std::alloc::Global;
 use tera_code::{Steps, Tally};
-use tera_objects::{CallerObjects, Objects};
 use tera_registry::Templates;
+use tera_state::{CallerObjects, Objects};
 use tera_syntax_tree::Delimiters;
 use tera_values::{Context, Error, TeraResult};
 

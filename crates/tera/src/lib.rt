@@ -16,41 +16,38 @@ mod texts;
 pub use engine::{Tera, TeraOver};
 // Values, names and errors.
 pub use tera_errors::{Place, Sources, alloc_result, place_of};
+pub use tera_value_types::copy_items;
 pub use tera_values::{
-    ArgFromValue, Arguments, Context, Counter, Error, ErrorKind, Key, Kwargs, Map, Name,
-    ReportError, Shape, NameRef, Span, StringInput, TeraResult, Value, ValueKind, WritesValues,
-    escape_html, escape_xml, number,
+    ArgFromValue, Arguments, Context, Counter, Error, ErrorKind, Key, Kwargs, Map, Name, NameRef,
+    ReportError, Shape, Span, StringInput, TeraResult, Value, ValueKind, WritesValues, escape_html,
+    escape_xml, number,
 };
-pub use tera_values_data::copy_items;
 // Templates as trees, and components.
 pub use tera_components::{ComponentArg, ComponentDefinition, ComponentInfo};
 pub use tera_syntax::parse;
 pub use tera_syntax_tree::{
-    Applied, Argument, ArgumentType, BinaryOperator, Block, Bounds, FunctionCall, Captured, Choice,
-    Collected, ComponentTag, DefinedComponent, Delimiters, EntryExpression, Expression, Heading, Indexed,
-    Item, Literal, LiteralEntry, LiteralKey, Node, Operands, OwnedKey, Parameter, ParserOutput,
-    Quoted, SectionFilter, Signature, Sliced,
+    Applied, Argument, ArgumentType, BinaryOperator, Block, Bounds, Captured, Choice, Collected,
+    ComponentTag, DefinedComponent, Delimiters, EntryExpression, Expression, FunctionCall, Heading,
+    Indexed, Item, Literal, LiteralEntry, LiteralKey, Node, Operands, OwnedKey, Parameter,
+    ParserOutput, Quoted, SectionFilter, Signature, Sliced,
 };
 // What a template calls, and the state that it sees.
 pub use tera_built_ins::{BuiltInFilter, BuiltInFunction, BuiltInTest, EscapeFn, Escaping};
-pub use tera_objects::{
-    ObjectCall, CallerObjects, Objects, ObjectsOver, OwnFilters, BuiltInKind, Stored, StoredFilter,
-    StoredFunction, StoredTest, ObjectTable,
-};
 pub use tera_operators::{Entries, LentOperand, Operand};
 pub use tera_state::{
-    Filter, ForLoop, ForLoopIterator, FoundValue, Function, Implicits, Stack, State, StateOver, Test,
-    write_value,
+    BuiltInKind, CallerObjects, Filter, ForLoop, ForLoopIterator, FoundValue, Function, Implicits,
+    ObjectCall, ObjectTable, Objects, ObjectsOver, OwnFilters, Stack, State, StateOver, Stored,
+    StoredFilter, StoredFunction, StoredTest, Test, write_value,
 };
 // Code, templates by name, and what runs.
 pub use tera_code::{
     Allowance, BlockCode, Budget, CallKind, Callee, Chunk, Comparison, Compiler, Constant,
-    Instruction, Keys, LentInstruction, LentName, Names, Spreads, Steps, Tally, Target, LentText,
+    Instruction, Keys, LentInstruction, LentName, LentText, Names, Spreads, Steps, Tally, Target,
     Untold, compile_body,
 };
 pub use tera_machine::{
-    BlockRequest, ComponentRequest, IncludeRequest, Configuration, EndedBlocks, LoopPlace, Numbered, OpenBlock,
-    OpenBodies, OpenThings, RenderedText, VirtualMachine, WantedBlock,
+    BlockRequest, ComponentRequest, Configuration, EndedBlocks, IncludeRequest, LoopPlace,
+    Numbered, OpenBlock, OpenBodies, OpenThings, RenderedText, VirtualMachine, WantedBlock,
 };
 pub use tera_registry::{
     Body, Code, Component, Defined, Definer, Definers, FoundTemplate, Template, Templates,

@@ -1,11 +1,11 @@
 // The caller's filters, tests, functions and escape.
 ghost use Rattle.std.specs.Prelude.{◌≡◌};
 ghost use Rattle.tera_values.specs.Prelude.{escape_html};
-ghost use Rattle.tera_objects.specs.Prelude.{with_escape, with_filter, with_test, with_function, Meanings, engine_of};
+ghost use Rattle.tera_state.specs.Prelude.{with_escape, with_filter, with_test, with_function, Meanings, engine_of};
 
 use crate::engine::TeraOver;
 use std::mem::replace;
-use tera_objects::ObjectsOver;
+use tera_state::ObjectsOver;
 use tera_values::TeraResult;
 
 /// `Tera` is such an engine, at boxes: its escape is a `Box<dyn EscapeFn>`, its filters are `Box<dyn Filter>`, its tests `Box<dyn Test>`

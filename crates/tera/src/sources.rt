@@ -6,8 +6,8 @@ use crate::engine::TeraOver;
 use crate::rendering::ONE_OFF;
 use std::alloc::Global;
 use tera_errors::Sources;
-use tera_objects::Objects;
 use tera_registry::Templates;
+use tera_state::Objects;
 use tera_values::{Error, TeraResult};
 
 // The texts of templates, and one that stands beside them.

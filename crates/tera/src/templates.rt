@@ -12,8 +12,8 @@ use crate::sources::tell_of_batch;
 use crate::texts::ends_with_one_of;
 use std::collections::BTreeSet;
 use tera_code::{Steps, Tally};
-use tera_objects::Objects;
 use tera_registry::FoundTemplate;
+use tera_state::Objects;
 use tera_values::{Context, Name, TeraResult};
 
 impl<O: Objects> TeraOver<O> {

@@ -8,8 +8,8 @@ ghost use Rattle.tera_built_ins.specs.Filters.{filter_named, filter_of};
 use crate::escape_fn::{EscapeFn, Escaping, Filtering};
 use crate::markup_filters::Markup;
 use crate::{
-    defaults, groups, indent, items, join, maps, markup_filters, numbers, parse, replace, safe_filters, sizes,
-    sorting, split, trims, truncate, words,
+    defaults, groups, indent, items, join, maps, markup_filters, numbers, parse, replace,
+    safe_filters, sizes, sorting, split, trims, truncate, words,
 };
 use std::alloc::Global;
 use tera_values::{Arguments, TeraResult, Value};

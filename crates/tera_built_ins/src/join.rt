@@ -21,7 +21,8 @@ pub fn join<E: EscapeFn>(filtering: Filtering<'_, E>) -> TeraResult<Value>
 {
     let items = as_array(filtering.alloc, filtering.value)?;
     let separator = optional_text(filtering.arguments, "sep")?;
-    let is_safe = filtering.escaping.autoescape && (has_safe_text(items) || is_given_safe(separator));
+    let is_safe = filtering.escaping.autoescape
+        && (has_safe_text(items) || is_given_safe(separator));
     let between = separator_part(filtering, is_safe, separator)?;
     let row = join_items(filtering, is_safe, items, between.as_str())?;
     Value::from_string(filtering.alloc, row, is_safe)

@@ -3,10 +3,11 @@
 
 mod arguments;
 mod attributes;
-pub mod defaults;
-pub mod escape_fn;
 pub mod built_in_filter;
 pub mod built_in_function;
+pub mod built_in_test;
+pub mod defaults;
+pub mod escape_fn;
 pub mod functions;
 pub mod groups;
 pub mod indent;
@@ -27,13 +28,12 @@ pub mod sizes;
 mod sort_key;
 pub mod sorting;
 pub mod split;
-pub mod built_in_test;
 pub mod tests;
 pub mod trims;
 pub mod truncate;
 pub mod words;
 
-pub use escape_fn::{EscapeFn, Escaping};
 pub use built_in_filter::BuiltInFilter;
 pub use built_in_function::BuiltInFunction;
 pub use built_in_test::BuiltInTest;
+pub use escape_fn::{EscapeFn, Escaping};

@@ -5,11 +5,11 @@ use Rattle.tera_errors.specs.Fault.{Fault, message}
 use Rattle.tera_syntax_tree.specs.Delimiters.{delimiters_of, accepted}
 use Rattle.tera_values.specs.Escape.{escape_html}
 use Rattle.tera_values.specs.Named.{put}
-use Rattle.tera_objects.specs.Engine.{Engine, with_escape, with_filter, with_test, with_function}
-use Rattle.tera_objects.specs.Kept.{Meanings, engine_of}
-use Rattle.tera_objects.specs.Moving.{with_those_of}
-use Rattle.tera_objects.specs.Laws.{OnlyAdds}
-use Rattle.tera_objects.proofs.Standing.{registering_adds}
+use Rattle.tera_state.specs.Engine.{Engine, with_escape, with_filter, with_test, with_function}
+use Rattle.tera_state.specs.Kept.{Meanings, engine_of}
+use Rattle.tera_state.specs.Moving.{with_those_of}
+use Rattle.tera_state.specs.Laws.{OnlyAdds}
+use Rattle.tera_state.proofs.Standing.{registering_adds}
 use Rattle.tera_meaning.specs.Registry.{Registry}
 use Rattle.tera_meaning.specs.Laws.{IsAccepted}
 use Rattle.tera_meaning.proofs.Faultless.{acceptance_stays}
@@ -20,7 +20,7 @@ use Rattle.tera.specs.Lent.{texts_of}
 use Rattle.tera.specs.Registering.{with_engine, MovesFrom}
 use Rattle.tera.specs.Registry.{registry_of}
 use Rattle.tera.specs.declared.engine.TeraOver.{TeraOver}
-use Rattle.tera_objects.specs.declared.caller_objects.ObjectsOver.{ObjectsOver}
+use Rattle.tera_state.specs.declared.objects.caller_objects.ObjectsOver.{ObjectsOver}
 use Rattle.tera_calls.specs.declared.call.CallOver.{CallOver}
 use Rattle.tera_calls.specs.declared.call.CallOver.TheVariants.{SetDelimiters, SetFallbackPrefixes, AutoescapeOn, InsertGlobal, SetGlobal, AddRawTemplate, AddRawTemplates, SetEscapeFn, ResetEscapeFn, RegisterFilter, RegisterTest, RegisterFunction, RegisterFrom}
 use Rattle.tera_calls.specs.Calls.{Answer, Ends, Leads, with_context, with_global}

@@ -8,7 +8,7 @@ use Rattle.tera_meaning.specs.Resolve.{resolve}
 use Rattle.tera_meaning.specs.Rendering.{autoescapes, render_in, render_block_in}
 use Rattle.tera_values.specs.Alphabet.{marking}
 use Rattle.tera_values.specs.Escape.{escape_html}
-use Rattle.tera_marks.specs.Origin.{Traces}
+use Rattle.tera_meaning.specs.Marks.Origin.{Traces}
 use Rattle.tera.specs.Rendering.{AppendsOneOf}
 use Rattle.tera_calls.specs.declared.rendering.EngineRendering.{EngineRendering}
 use Rattle.tera_calls.specs.declared.rendering.EngineRendering.TheVariants as rendering

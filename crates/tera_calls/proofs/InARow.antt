@@ -2,8 +2,8 @@
 use Rattle.std.proofs.Common.{◌≡◌, List, [], ◌∷◌, ◌++◌, refl, sym, subst}
 use Rattle.tera.specs.declared.engine.TeraOver.{TeraOver}
 use Rattle.tera.specs.Registry.{registry_of}
-use Rattle.tera_objects.specs.Kept.{Meanings, engine_of}
-use Rattle.tera_objects.specs.declared.caller_objects.ObjectsOver.{ObjectsOver}
+use Rattle.tera_state.specs.Kept.{Meanings, engine_of}
+use Rattle.tera_state.specs.declared.objects.caller_objects.ObjectsOver.{ObjectsOver}
 use Rattle.tera_meaning.specs.Registry.{Registry}
 use Rattle.tera_calls.specs.declared.call.CallOver.{CallOver}
 use Rattle.tera_calls.specs.Calls.{Answer, Ends, Leads}

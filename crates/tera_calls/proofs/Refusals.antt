@@ -1,7 +1,7 @@
 -- Calls that are refused.
 use Rattle.std.proofs.Common.{◌≡◌, Some, Err}
 use Rattle.tera_errors.specs.Fault.{Fault}
-use Rattle.tera_objects.specs.Kept.{Meanings}
+use Rattle.tera_state.specs.Kept.{Meanings}
 use Rattle.tera_meaning.specs.Registry.{Registry}
 use Rattle.tera_calls.specs.declared.call.CallOver.{CallOver}
 use Rattle.tera_calls.specs.declared.call.CallOver.TheVariants.{SetDelimiters, SetFallbackPrefixes, AutoescapeOn, InsertGlobal, SetGlobal, AddRawTemplate, AddRawTemplates, SetEscapeFn, ResetEscapeFn, RegisterFilter, RegisterTest, RegisterFunction, RegisterFrom}

@@ -6,8 +6,8 @@ use Rattle.tera_syntax_tree.specs.Delimiters.{delimiters_of}
 use Rattle.tera_values.specs.Escape.{escape_html}
 use Rattle.tera_values.specs.Val.{Val}
 use Rattle.tera_values.specs.Named.{Named, put}
-use Rattle.tera_objects.specs.Engine.{with_escape, with_filter, with_test, with_function}
-use Rattle.tera_objects.specs.Kept.{Meanings, engine_of}
+use Rattle.tera_state.specs.Engine.{with_escape, with_filter, with_test, with_function}
+use Rattle.tera_state.specs.Kept.{Meanings, engine_of}
 use Rattle.tera_meaning.specs.Registry.{Registry}
 use Rattle.tera_registry.specs.Batch.{Adds, ConfiguresOneOf, pairs_of}
 use Rattle.tera.specs.Configuring.{Configures, with_delimiters, with_prefixes, with_suffixes}

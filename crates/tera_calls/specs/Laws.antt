@@ -3,7 +3,7 @@ use Rattle.std.specs.Prelude.{◌≡◌, ℕ, List, Some, Err}
 use Rattle.std.specs.Borrow.{Bor}
 use Rattle.tera_errors.specs.Fault.{Fault}
 use Rattle.tera_errors.specs.Answer.{SeenError}
-use Rattle.tera_objects.specs.Kept.{Meanings}
+use Rattle.tera_state.specs.Kept.{Meanings}
 use Rattle.tera_meaning.specs.Registry.{Registry}
 use Rattle.tera_meaning.specs.Laws.{IsAccepted}
 use Rattle.tera_calls.specs.Calls.{Answer, Ends, Leads}

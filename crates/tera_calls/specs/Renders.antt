@@ -10,7 +10,7 @@ use Rattle.tera_meaning.specs.Registry.{Entry, Registry, new_registry}
 use Rattle.tera_meaning.specs.Resolve.{resolve}
 use Rattle.tera_meaning.specs.Components.{one_off_name}
 use Rattle.tera_meaning.specs.Rendering.{autoescapes, render_in, render_str_in, render_block_in, render_component_in}
-use Rattle.tera_marks.specs.Origin.{Traces}
+use Rattle.tera_meaning.specs.Marks.Origin.{Traces}
 use Rattle.tera.specs.Lent.{lent_text}
 use Rattle.tera.specs.Rendering.{OneOff, ByName, BlockByName, ComponentByName}
 use Rattle.tera_calls.specs.declared.rendering.EngineRendering.{EngineRendering}

@@ -11,7 +11,7 @@ use tera::{
     CallerObjects, Context, Delimiters, EscapeFn, Filter, Function, Objects, Tera, TeraOver,
     TeraResult, Test, Value,
 };
-use tera_objects::ObjectsOver;
+use tera_state::ObjectsOver;
 
 /// A call that configures an engine or adds to it, with its arguments, over any types of the caller's objects.
 #[derive(Drop)]

@@ -1,5 +1,5 @@
 // What the objects mean that a caller boxes. Contracts alone speak of it.
-ghost use Rattle.tera_objects.specs.Prelude.{Meanings};
+ghost use Rattle.tera_state.specs.Prelude.{Meanings};
 
 use tera::{CallerObjects, EscapeFn, Filter, Function, Test};
 

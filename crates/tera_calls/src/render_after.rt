@@ -7,8 +7,8 @@ ghost use Rattle.tera_calls.specs.Renders.{Rendered, Renders};
 ghost use Rattle.tera_errors.specs.Prelude.{GivesOneOf, Lacks};
 ghost use Rattle.tera_meaning.specs.Prelude.{IsAccepted};
 
-use crate::object_types::ObjectTypes;
 use crate::call::{Call, make_calls};
+use crate::object_types::ObjectTypes;
 use crate::rendering::{EngineRendering, Rendering, render_call, render_call_to};
 use std::alloc::Global;
 use tera::{CallerObjects, Objects, Tera, TeraResult};

@@ -98,7 +98,10 @@ fn answer_of<O: Objects>(
     }
 }
 
-fn answer_by_engine<O: Objects>(engine: &TeraOver<O>, call: &EngineRendering<'_>) -> TeraResult<String>
+fn answer_by_engine<O: Objects>(
+    engine: &TeraOver<O>,
+    call: &EngineRendering<'_>,
+) -> TeraResult<String>
     ensures { GivesOneOf string_bytes result
         (Answers (registry_of O.engine engine.now) call.now) }
 {

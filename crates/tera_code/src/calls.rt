@@ -12,14 +12,20 @@ use crate::instruction_parts::{Keys, LentName, Names};
 use crate::single_instructions::keys;
 use std::alloc::{AllocError, Global};
 use tera_errors::alloc_result;
-use tera_syntax_tree::{Applied, Argument, FunctionCall, ComponentTag, EntryExpression, SectionFilter};
+use tera_syntax_tree::{
+    Applied, Argument, ComponentTag, EntryExpression, FunctionCall, SectionFilter,
+};
 use tera_values::{Name, Span};
 
 impl Compiler {
     // `super`
     #[cycle(expressions)]
     #[inline(never)]
-    pub(crate) fn super_call(&mut self, arguments: &[Argument], span: Span) -> Result<(), AllocError>
+    pub(crate) fn super_call(
+        &mut self,
+        arguments: &[Argument],
+        span: Span,
+    ) -> Result<(), AllocError>
         ensures ok { OnOk result (self.new ≡ lengthened self.old
             (expr_code (Super (arguments_of arguments.now) span))) }
     {
@@ -50,7 +56,11 @@ impl Compiler {
 
     #[cycle(expressions)]
     #[inline(never)]
-    pub(crate) fn function_call(&mut self, called: &FunctionCall, span: Span) -> Result<(), AllocError>
+    pub(crate) fn function_call(
+        &mut self,
+        called: &FunctionCall,
+        span: Span,
+    ) -> Result<(), AllocError>
         ensures ok { OnOk result (self.new ≡ lengthened self.old
             (expr_code (called_of called.now span))) }
     {

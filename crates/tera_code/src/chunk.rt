@@ -11,9 +11,9 @@ ghost use Rattle.tera_code.specs.Targets.{target_in, target_of};
 
 use crate::callee::Callee;
 use crate::comparison::{Comparison, IntegerComparison};
+use crate::instruction_parts::LentText;
 use crate::lent_code::LentCode;
 use crate::lent_instruction::LentInstruction;
-use crate::instruction_parts::LentText;
 use crate::packed::{Packed, Tables};
 use crate::settling::settle;
 use crate::steps::Steps;

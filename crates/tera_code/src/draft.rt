@@ -7,9 +7,9 @@ ghost use Rattle.tera_syntax_tree.specs.Prelude.{items_of};
 
 use crate::chunk::Chunk;
 use crate::instruction::Instruction;
+use crate::name_cache::NameCache;
 use crate::packed::{Packed, Tables};
 use crate::size_guess::SizeGuess;
-use crate::name_cache::NameCache;
 use std::alloc::{AllocError, Global};
 use std::marker::Model;
 use tera_syntax_tree::Item;

@@ -63,7 +63,11 @@ impl Compiler {
             Expression::Map { entries, span } => self.map(entries.as_slice(), *span),
             Expression::Comprehension { collected, span } => self.comprehension(collected, *span),
             Expression::Super { arguments, span } => self.super_call(arguments.as_slice(), *span),
-            Expression::Filter { applied, span } => self.application(CallKind::Filter, applied, *span),
+            Expression::Filter { applied, span } => self.application(
+                CallKind::Filter,
+                applied,
+                *span,
+            ),
             Expression::Test { applied, span } => self.application(CallKind::Test, applied, *span),
             Expression::Call { called, span } => self.function_call(called, *span),
             Expression::Component { tag, span } => self.tag(tag, *span),

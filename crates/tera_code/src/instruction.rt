@@ -4,7 +4,7 @@ ghost use Rattle.tera_code.specs.Calls.{call_of};
 
 use crate::call_kind::CallKind;
 use crate::constant::Constant;
-use crate::instruction_parts::{Keys, LentName, Names, Spreads, LentText};
+use crate::instruction_parts::{Keys, LentName, LentText, Names, Spreads};
 use tera_syntax_tree::BinaryOperator;
 use tera_values::{NameRef, Span};
 

@@ -2,11 +2,7 @@
 ghost use Rattle.std.specs.Prelude.{◌≡◌, IfSome, IsTrue, Some, option_map};
 ghost use Rattle.tera_values.specs.Val as val;
 ghost use Rattle.tera_code.specs.declared.instruction.Instruction.TheVariants as instruction;
-ghost use Rattle.tera_code.specs.InstructionParts.{written_text, written_name, loaded_name, loaded_integer};
-ghost use Rattle.tera_code.specs.InstructionParts.{loaded_constant, loaded_attribute, applied_operator, bound_name};
-ghost use Rattle.tera_code.specs.InstructionParts.{started_loop, ended_loop, jump_length, jump_length_if_false};
-ghost use Rattle.tera_code.specs.InstructionParts.{included_template, taken_block, taken_super, taken_component};
-ghost use Rattle.tera_code.specs.InstructionParts.{is_write_top, is_next_turn, uses_top};
+ghost use Rattle.tera_code.specs.InstructionParts.{written_text, written_name, loaded_name, loaded_integer, loaded_constant, loaded_attribute, applied_operator, bound_name, started_loop, ended_loop, jump_length, jump_length_if_false, included_template, taken_block, taken_super, taken_component, is_write_top, is_next_turn, uses_top};
 ghost use Rattle.tera_built_ins.specs.Prelude.{filter_named, test_named};
 ghost use Rattle.tera_code.specs.BuiltIn.{built_in_filter, built_in_test};
 ghost use Rattle.tera_code.specs.Called.{callee_of, called_by};
@@ -17,7 +13,7 @@ ghost use Rattle.tera_code.specs.Targets.{target_in, target_of};
 use crate::callee::Callee;
 use crate::constant::Constant;
 use crate::instruction::Instruction;
-use crate::instruction_parts::{Keys, LentName, Names, LentText};
+use crate::instruction_parts::{Keys, LentName, LentText, Names};
 use crate::packed::{Packed, Tables};
 use crate::target::Target;
 use std::marker::Model;
@@ -422,7 +418,9 @@ impl<'a> LentInstruction<'a> {
         match *self.packed {
             Packed::ApplyFilter { call, .. } => Some(Callee::Filter(self.tables.callee_name(call))),
             Packed::ApplyTest { call, .. } => Some(Callee::Test(self.tables.callee_name(call))),
-            Packed::CallFunction { call, .. } => Some(Callee::Function(self.tables.callee_name(call))),
+            Packed::CallFunction { call, .. } => Some(Callee::Function(
+                self.tables.callee_name(call),
+            )),
             Packed::TakeComponent { target, .. } => {
                 Some(Callee::Component(self.tables.target(target).as_str()))
             }

@@ -49,7 +49,10 @@ impl Compiler {
                 let position = self.keep_position()?;
                 self.expression(&collected.value)?;
                 self.emit(Instruction::Keep)?;
-                self.fill(position, Instruction::PopJumpIfFalse(self.count_after(position)))
+                self.fill(
+                    position,
+                    Instruction::PopJumpIfFalse(self.count_after(position)),
+                )
             }
         }
     }

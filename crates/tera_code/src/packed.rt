@@ -12,7 +12,7 @@ use crate::call_names::CallNames;
 use crate::constant::{Constant, Kept, small_integer};
 use crate::instruction::Instruction;
 use crate::instruction_parts::{Keys, LentName, Names, Spreads};
-use crate::name_cache::{SLOTS, NameCache};
+use crate::name_cache::{NameCache, SLOTS};
 use crate::single_instructions::{add_spreads, copy_key};
 use std::alloc::{AllocError, Global};
 use tera_errors::alloc_result;

@@ -59,11 +59,18 @@ impl Compiler {
         ensures ok { OnOk result (self.new ≡ divided position self.old) }
     {
         let next = self.keep_position()?;
-        self.fill(position, Instruction::PopJumpIfFalse(self.count_after(position)))?;
+        self.fill(
+            position,
+            Instruction::PopJumpIfFalse(self.count_after(position)),
+        )?;
         Ok(next)
     }
 
-    pub(crate) fn make_map(&mut self, entries: &[EntryExpression], span: Span) -> Result<(), AllocError>
+    pub(crate) fn make_map(
+        &mut self,
+        entries: &[EntryExpression],
+        span: Span,
+    ) -> Result<(), AllocError>
         ensures ok { OnOk result (self.new ≡ lengthened self.old
             (instruction.MakeMap (keys_in (entries_of entries.now)) span ∷ [])) }
     {
@@ -91,7 +98,10 @@ pub(crate) fn add_spreads(flags: &mut Vec<bool>, items: &[Item]) -> Result<(), A
     Ok(())
 }
 
-pub(crate) fn keys(alloc: Global, entries: &[EntryExpression]) -> Result<Vec<Option<OwnedKey>>, AllocError>
+pub(crate) fn keys(
+    alloc: Global,
+    entries: &[EntryExpression],
+) -> Result<Vec<Option<OwnedKey>>, AllocError>
     ensures { IfOk result (λ k. keys_of k.items ≡ keys_in (entries_of entries.now)) }
 {
     let mut keys = Vec::new(alloc);
@@ -117,7 +127,10 @@ fn own_key(alloc: Global, key: &Option<LiteralKey<'_>>) -> Result<Option<OwnedKe
 }
 
 // The key with a text of its own, like the other's.
-pub(crate) fn copy_key(alloc: Global, key: &Option<OwnedKey>) -> Result<Option<OwnedKey>, AllocError>
+pub(crate) fn copy_key(
+    alloc: Global,
+    key: &Option<OwnedKey>,
+) -> Result<Option<OwnedKey>, AllocError>
     ensures { IfOk result (λ k. key_option k ≡ key_option key.now) }
 {
     let key = literal_key(key);

@@ -8,7 +8,7 @@ ghost use Rattle.tera_code.specs.Packed.{Within, tables_of, span_at, name_at, ca
 use crate::call_kind::CallKind;
 use crate::constant::Constant;
 use crate::instruction::Instruction;
-use crate::instruction_parts::{Keys, LentName, Names, Spreads, LentText};
+use crate::instruction_parts::{Keys, LentName, LentText, Names, Spreads};
 use crate::packed::{Packed, Tables};
 use tera_built_ins::{BuiltInFilter, BuiltInTest};
 use tera_values::{Name, NameRef, Span};

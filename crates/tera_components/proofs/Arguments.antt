@@ -9,7 +9,7 @@ use Rattle.tera_errors.specs.Site.{Name}
 use Rattle.tera_syntax_tree.specs.Blocks.{is_among}
 use Rattle.tera_values.specs.Val.{Val, KeyVal, kbool, kint, ktext}
 use Rattle.tera_values.specs.Access.{key_eq, find, insert_pair}
-use Rattle.tera_values_data.proofs.Keys.{key_exact, is_eq_true}
+use Rattle.tera_value_types.proofs.Keys.{key_exact, is_eq_true}
 use Rattle.tera_values.specs.Named.{Named, at_name, text_keys}
 use Rattle.tera_components.specs.Definition.{Formal, AreNames, named_arguments}
 

@@ -6,9 +6,9 @@ use Rattle.std.proofs.lemmas.List.Elements.{filter-append}
 use Rattle.std.proofs.lemmas.Option.{slice_get_within, get_or_from_slice_get}
 use Rattle.tera_errors.specs.Site.{Name}
 use Rattle.tera_syntax_tree.specs.Blocks.{is_among}
-use Rattle.tera_values_data.specs.Index.{key_at, IsDistinct}
-use Rattle.tera_values_data.proofs.Keys.{key_exact, key_tied, is_eq_true}
-use Rattle.tera_values_data.proofs.Positions.{find_absent}
+use Rattle.tera_value_types.specs.Index.{key_at, IsDistinct}
+use Rattle.tera_value_types.proofs.Keys.{key_exact, key_tied, is_eq_true}
+use Rattle.tera_value_types.proofs.Positions.{find_absent}
 use Rattle.tera_values.specs.Val.{Val, KeyVal, kbool, kint, ktext, undefined}
 use Rattle.tera_values.specs.Access.{key_eq, find, insert_pair}
 use Rattle.tera_values.specs.Named.{text_keys}

@@ -151,7 +151,12 @@ impl ComponentArg {
     {
         let value = match self.offer(alloc, given, caller)? {
             Some(value) => value,
-            None => return Err(faults::missing_argument(alloc, component, self.name.as_str(), given)),
+            None => return Err(faults::missing_argument(
+                alloc,
+                component,
+                self.name.as_str(),
+                given,
+            )),
         };
         match self.of_type {
             Some(of_type) if !is_of_type(&value, of_type) => {

@@ -10,7 +10,12 @@ use tera_values::{Error, Key, Map};
 
 /// A parameter has no value. It tells of an argument that is given and whose name is near.
 #[inline(never)]
-pub(crate) fn missing_argument(alloc: Global, component: &str, parameter: &str, given: &Entries<'_>) -> Error
+pub(crate) fn missing_argument(
+    alloc: Global,
+    component: &str,
+    parameter: &str,
+    given: &Entries<'_>,
+) -> Error
     ensures { Tells result message }
 {
     Error::message_from(missing_in_words(alloc, component, parameter, given))

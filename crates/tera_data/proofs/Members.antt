@@ -5,8 +5,8 @@ use Rattle.std.specs.Str.{bytes_eq}
 use Rattle.std.specs.Cmp.Lexicographic.{bytes_decides}
 use Rattle.std.proofs.lemmas.Map.Text.{is_eq-slice_cmp}
 use Rattle.tera_errors.specs.Prelude.{Fault, Name}
-use Rattle.tera_values_data.specs.Val.{Val, KeyVal, ktext}
-use Rattle.tera_values_data.specs.Access.{insert_pair}
+use Rattle.tera_value_types.specs.Val.{Val, KeyVal, ktext}
+use Rattle.tera_value_types.specs.Access.{insert_pair}
 use Rattle.tera_values.specs.Named.{Named, at_name, without_names, text_keys}
 use Rattle.tera_values.proofs.Kept.{either_order}
 use Rattle.tera_data.specs.Values.{then, in_front, once}

@@ -2,7 +2,7 @@
 use Rattle.std.specs.Prelude.{[], Result, Ok, Err}
 use Rattle.json.specs.Json.{Json, null, boolean, number, string, array as list, object, Members}
 use Rattle.tera_errors.specs.Prelude.{Fault, message, Text}
-use Rattle.tera_values_data.specs.Val.{Val}
+use Rattle.tera_value_types.specs.Val.{Val}
 use Rattle.tera_values.specs.Named.{Named, put_all}
 use Rattle.tera_data.specs.Values.{then, of_members, read}
 use Rattle.tera_data.specs.declared.number.Floats.{Floats}

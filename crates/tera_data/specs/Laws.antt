@@ -1,7 +1,7 @@
 -- What holds of members of which each name stands once.
 use Rattle.std.specs.Prelude.{◌≡◌, ◌≢◌, List, [], ◌∷◌, ◌++◌, Some, None, map}
 use Rattle.tera_errors.specs.Prelude.{Name}
-use Rattle.tera_values_data.specs.Val.{Val}
+use Rattle.tera_value_types.specs.Val.{Val}
 use Rattle.tera_values.specs.Named.{Named, at_name}
 use Rattle.tera_data.specs.Values.{once}
 

@@ -4,7 +4,7 @@ use Rattle.std.specs.Str.{all_ascii_digits}
 use Rattle.std.specs.Str.Parse.{signed_digits_value, without_leading_sign}
 use Rattle.tera_errors.specs.Prelude.{Fault, message, Text}
 use Rattle.tera_values.specs.Number.{in_range}
-use Rattle.tera_values_data.specs.Val.{Val, int, text}
+use Rattle.tera_value_types.specs.Val.{Val, int, text}
 use Rattle.tera_data.specs.declared.number.Floats.{Floats}
 use Rattle.tera_data.specs.declared.number.Floats.TheVariants as floats
 

@@ -3,7 +3,7 @@ use Rattle.std.specs.Prelude.{List, [], ◌∷◌, unwrap_or, false, Result, Ok,
 use Rattle.std.specs.Option.{ok_or}
 use Rattle.json.specs.Json.{Json, null, boolean, number, string, array as list, object, Items, no_items, item, Members, no_members, member, document}
 use Rattle.tera_errors.specs.Prelude.{Fault, message, Name, Text}
-use Rattle.tera_values_data.specs.Val.{Val, none, bool, text, array, map, vals, entries}
+use Rattle.tera_value_types.specs.Val.{Val, none, bool, text, array, map, vals, entries}
 use Rattle.tera_values.specs.Named.{Named, at_name, without_names, text_keys}
 use Rattle.tera_data.specs.Numbers.{integer_of, of_number}
 use Rattle.tera_data.specs.declared.number.Floats.{Floats}

@@ -11,8 +11,8 @@ use crate::words::{at_item, at_member};
 use json::Value as Json;
 use std::alloc::Global;
 use tera_errors::TeraResult;
+use tera_value_types::{Key, Map, Value};
 use tera_values::Context;
-use tera_values_data::{Key, Map, Value};
 
 #[cycle(values)]
 pub(crate) fn value_of(alloc: Global, json: &Json<'_>, floats: Floats) -> TeraResult<Value>

@@ -6,7 +6,7 @@ ghost use Rattle.tera_data.specs.Numbers.{integer_of, of_number, of_other};
 use crate::words::refused_number;
 use std::alloc::Global;
 use tera_errors::TeraResult;
-use tera_values_data::Value;
+use tera_value_types::Value;
 
 /// What becomes of a number that is no integer of 128 bits: one with a fraction or an exponent, or one that is too large.
 /// Templates have no floating-point numbers.

@@ -11,8 +11,8 @@ use crate::words::{no_object, no_text, unreadable_text, with_path};
 use json::{Scratch, Value as Json};
 use std::alloc::Global;
 use tera_errors::{Error, TeraResult};
+use tera_value_types::Value;
 use tera_values::Context;
-use tera_values_data::Value;
 
 /// The value that the text spells. Arrays and objects may nest 128 deep. An object's members stand in the order of the text; of
 /// two with one name the later gives the value, and the earlier the place. A refusal says where, and why.

@@ -7,9 +7,9 @@ use Rattle.tera_values.specs.Val.{Val}
 use Rattle.tera_built_ins.specs.declared.built_in_filter.BuiltInFilter.{BuiltInFilter}
 use Rattle.tera_built_ins.specs.Filters.{filter_named, filter_of}
 use Rattle.tera_state.specs.Scope.{Around, Variables}
-use Rattle.tera_objects.specs.BuiltIn.{escaping_by}
-use Rattle.tera_objects.specs.Calling.{filter_called, filtered_by, seen_in}
-use Rattle.tera_objects.specs.Engine.{Engine, own_or_built_in}
+use Rattle.tera_state.specs.BuiltIn.{escaping_by}
+use Rattle.tera_state.specs.Calling.{filter_called, filtered_by, seen_in}
+use Rattle.tera_state.specs.Engine.{Engine, own_or_built_in}
 
 -- what the name of one stands for where the caller registered no other
 pub filtered_is : (engine : Engine) (around : Around) (vars : Variables) (autoescape : Bool) (name : Name) (filter : BuiltInFilter) (v : Val) (given : Named Val) → at_name name engine.filters ≡ None → filter_named name ≡ Some filter

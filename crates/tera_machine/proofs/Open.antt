@@ -4,7 +4,7 @@ use Rattle.std.specs.Prelude.{option_and_then, slice_get}
 use Rattle.tera_errors.specs.Fault.{Fault}
 use Rattle.tera_errors.specs.Answer.{SeenError}
 use Rattle.tera_state.specs.Scopes.{around_of}
-use Rattle.tera_objects.specs.Engine.{Engine}
+use Rattle.tera_state.specs.Engine.{Engine}
 use Rattle.tera_meaning.specs.Here.{Here}
 use Rattle.tera_meaning.specs.Run.{Request}
 use Rattle.tera_meaning.specs.Whole.{World, Place, Refuses, here_at, way}

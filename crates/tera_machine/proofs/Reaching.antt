@@ -10,10 +10,9 @@ use Rattle.tera_errors.specs.Fault.{rendering_error}
 use Rattle.tera_values.specs.Val.{Val}
 use Rattle.tera_values.specs.Access.{is_undefined}
 use Rattle.tera_state.specs.Rendered.{rendered}
-use Rattle.tera_operators.specs.Operand.{fault_at}
+use Rattle.tera_operators.specs.Operand.{fault_at, Evaluated}
 use Rattle.tera_meaning.specs.Meaning.{output}
 use Rattle.tera_state.specs.Scope.{look}
-use Rattle.tera_operators.specs.Operand.{Evaluated}
 use Rattle.tera_operators.specs.Accesses.{attribute_of}
 use Rattle.tera_meaning.specs.Here.{Here}
 use Rattle.tera_code.specs.InstructionParts.{Compares}
@@ -21,7 +20,7 @@ use Rattle.tera_code.specs.declared.comparison.Comparison.{Comparison}
 use Rattle.tera_code.specs.declared.instruction.Instruction.{Instruction}
 use Rattle.tera_code.specs.declared.instruction.Instruction.TheVariants as instruction
 use Rattle.tera_code.specs.Code.{Code}
-use Rattle.tera_objects.specs.Engine.{Engine}
+use Rattle.tera_state.specs.Engine.{Engine}
 use Rattle.tera_machine.specs.declared.machine.VirtualMachine.{VirtualMachine}
 use Rattle.tera_machine.specs.declared.configuration.Configuration.{Configuration}
 use Rattle.tera_machine.specs.declared.machine.Flow as declared

@@ -5,7 +5,7 @@ use Rattle.std.specs.Prelude.{slice_get, Bool, true, false, cond, nat_le, length
 use Rattle.tera_errors.specs.Site.{Name}
 use Rattle.tera_errors.specs.Answer.{SeenError}
 use Rattle.tera_state.specs.Scopes.{around_of}
-use Rattle.tera_objects.specs.Engine.{Engine}
+use Rattle.tera_state.specs.Engine.{Engine}
 use Rattle.tera_meaning.specs.Here.{Here}
 use Rattle.tera_meaning.specs.Run.{Request}
 use Rattle.tera_meaning.specs.Whole.{World, Place, here_at}

@@ -9,7 +9,7 @@ use Rattle.tera_code.specs.declared.instruction.Instruction.TheVariants as instr
 use Rattle.tera_code.specs.InstructionParts.{ended_loop}
 use Rattle.tera_code.specs.Code.{Code}
 use Rattle.tera_code.specs.Printing.{puts_up_to}
-use Rattle.tera_objects.specs.Engine.{Engine}
+use Rattle.tera_state.specs.Engine.{Engine}
 use Rattle.tera_meaning.specs.Here.{Here}
 use Rattle.tera_machine.specs.declared.machine.VirtualMachine.{VirtualMachine}
 use Rattle.tera_machine.specs.Config.{Config}

@@ -5,7 +5,7 @@ use Rattle.tera_errors.specs.Site.{Name}
 use Rattle.tera_errors.specs.Answer.{SeenError}
 use Rattle.tera_syntax_tree.specs.Tree.{Nodes}
 use Rattle.tera_state.specs.Scopes.{around_of}
-use Rattle.tera_objects.specs.Engine.{Engine}
+use Rattle.tera_state.specs.Engine.{Engine}
 use Rattle.tera_components.specs.Definition.{Definition}
 use Rattle.tera_code.specs.Listing.{Listing}
 use Rattle.tera_meaning.specs.Components.{one_off_name}

@@ -11,20 +11,19 @@ ghost use Rattle.tera_machine.specs.Subject.{AreFrom, AreNumbered, IsLinked, IsO
 ghost use Rattle.tera_machine.specs.WantedBlock.{ended_by, Noted};
 ghost use Rattle.tera_machine.specs.Bodies.{FindsBody, IsNumbered, Enters, closed_in};
 
-use crate::requests::BlockRequest;
-use crate::open_bodies::{OuterBlocks, OpenBodies};
 use crate::configuration::Configuration;
 use crate::ended_blocks::EndedBlocks;
-use crate::machine::{Limit, VirtualMachine};
 use crate::loop_place::LoopPlace;
+use crate::machine::{Limit, VirtualMachine};
+use crate::open_bodies::{OpenBodies, OuterBlocks};
 use crate::refusals::{no_block, no_definer_above, open_block};
+use crate::requests::BlockRequest;
 use crate::wanted_block::WantedBlock;
 use std::mem::replace;
 use tera_code::Chunk;
-use tera_objects::Objects;
 use tera_operators::Operand;
 use tera_registry::{Body, Definer, Definers, FoundTemplate};
-use tera_state::Stack;
+use tera_state::{Objects, Stack};
 use tera_values::{Name, Span, TeraResult};
 
 /// What a body that takes another has to itself: its open loops, and the blocks that ended in it so far.

@@ -7,7 +7,7 @@ ghost use Rattle.tera_built_ins.specs.Prelude.{filter_named, test_named};
 ghost use Rattle.tera_operators.specs.Prelude.{filter_applied_by, test_applied_by};
 ghost use Rattle.tera_operators.specs.Operand.{Evaluated};
 ghost use Rattle.tera_operators.specs.Calls.{by_name};
-ghost use Rattle.tera_objects.specs.Calling.{filtered_by, tested_by, seen_in};
+ghost use Rattle.tera_state.specs.Calling.{filtered_by, tested_by, seen_in};
 ghost use Rattle.tera_state.specs.Scope.{Around, Variables};
 ghost use Rattle.tera_machine.specs.Effect.{IsReady, Does, filter_called, test_called};
 ghost use Rattle.tera_machine.specs.Subject.{here_of};
@@ -17,8 +17,8 @@ use crate::configuration::Configuration;
 use crate::machine::{Flow, FlowResult, VirtualMachine};
 use tera_built_ins::{BuiltInFilter, BuiltInTest};
 use tera_code::{CallKind, LentName, Names};
-use tera_objects::Objects;
 use tera_operators::{Operand, arguments, operand_or_call_fault};
+use tera_state::Objects;
 use tera_values::{Arguments, Name, Span, TeraResult, Value};
 
 impl<'c> Configuration<'c> {
@@ -117,7 +117,15 @@ impl<'c> Configuration<'c> {
         let operands = self.pop_operands(names.len())?;
         let given = arguments(machine.alloc, names, operands)?;
         let target = self.operands.pop_top();
-        let operand = filter_result(machine, file, filter, name, &given.as_arguments(), &target, span)?;
+        let operand = filter_result(
+            machine,
+            file,
+            filter,
+            name,
+            &given.as_arguments(),
+            &target,
+            span,
+        )?;
         self.push_operand(operand)
     }
 

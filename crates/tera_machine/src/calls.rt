@@ -6,8 +6,8 @@ ghost use Rattle.tera_values.specs.Prelude.{bool, plain};
 ghost use Rattle.tera_operators.specs.Prelude.{then, filter_applied_by, test_applied_by};
 ghost use Rattle.tera_operators.specs.Operand.{Evaluated};
 ghost use Rattle.tera_operators.specs.Calls.{by_name};
-ghost use Rattle.tera_objects.specs.Calling.{filtered_by, tested_by};
-ghost use Rattle.tera_objects.specs.Called.{seen};
+ghost use Rattle.tera_state.specs.Calling.{filtered_by, tested_by};
+ghost use Rattle.tera_state.specs.Called.{seen};
 ghost use Rattle.tera_machine.specs.Effect.{IsReady, Does, called};
 ghost use Rattle.tera_machine.specs.Subject.{here_of};
 
@@ -15,8 +15,8 @@ use crate::configuration::Configuration;
 use crate::machine::{FlowResult, VirtualMachine};
 use std::alloc::Global;
 use tera_code::{CallKind, LentName, Names};
-use tera_objects::{ObjectCall, Objects};
 use tera_operators::{Operand, arguments, operand_or_call_fault, operand_or_fault};
+use tera_state::{ObjectCall, Objects};
 use tera_values::{Error, Span, TeraResult, Value};
 
 impl<'c> Configuration<'c> {

@@ -8,7 +8,7 @@ ghost use Rattle.tera_machine.specs.Captures.{capture_started, capture_ended, dr
 
 use crate::configuration::Configuration;
 use crate::machine::{Flow, FlowResult, VirtualMachine};
-use tera_objects::Objects;
+use tera_state::Objects;
 use tera_values::{Span, Value};
 
 impl<'c> Configuration<'c> {

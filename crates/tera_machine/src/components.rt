@@ -13,14 +13,14 @@ ghost use Rattle.tera_machine.specs.Components.{Calls};
 ghost use Rattle.tera_machine.specs.Open.{TakesBefore};
 ghost use Rattle.tera_machine.specs.Subject.{IsLinked, IsOf, kept_beside, place_at};
 
-use crate::requests::ComponentRequest;
 use crate::block_bodies::SavedBody;
 use crate::configuration::Configuration;
 use crate::machine::{Limit, VirtualMachine};
 use crate::refusals::{no_component, too_deep};
-use tera_objects::Objects;
+use crate::requests::ComponentRequest;
 use tera_operators::{Operand, fault_at};
 use tera_registry::{Body, Defined, TextTable};
+use tera_state::Objects;
 use tera_values::{Kwargs, Name, Span, TeraResult};
 
 /// How deep components may call one another.
@@ -53,7 +53,12 @@ impl<'c> Configuration<'c> {
     }
 
     /// The body of a component ends: its text becomes an operand, and all else is as before it.
-    pub(crate) fn end_component(&mut self, safe: bool, span: Span, outer: SavedBody) -> TeraResult<()>
+    pub(crate) fn end_component(
+        &mut self,
+        safe: bool,
+        span: Span,
+        outer: SavedBody,
+    ) -> TeraResult<()>
         requires text { (config_of self.old).captures ≢ [] }
         requires state { self.old.scopes.below ≢ [] }
         ensures rejoins { OnOk result (Rejoins (Pushed safe span) self.old outer self.new) }
@@ -89,7 +94,12 @@ impl<'t, O: Objects> VirtualMachine<'t, O> {
 
     // The component of this name, which the instruction before this position of the code calls: that of the templates, else that
     // of the text beside them.
-    fn component_by_name<M: Limit>(&self, here: Body<'t>, next: usize, name: &Name) -> Option<Defined<'t>>
+    fn component_by_name<M: Limit>(
+        &self,
+        here: Body<'t>,
+        next: usize,
+        name: &Name,
+    ) -> Option<Defined<'t>>
         requires linked { IsLinked self.now M.world }
         requires here { IsOf M.world.registry here }
         requires takes { TakesBefore here next (ComponentNamed name.now) }

@@ -10,15 +10,14 @@ ghost use Rattle.tera_machine.specs.Paths.{Stands, start_at};
 ghost use Rattle.tera_machine.specs.Subject.{here_of};
 ghost use Rattle.tera_state.specs.Prelude.{around_of};
 
-use crate::requests::Request;
 use crate::configuration::Configuration;
 use crate::instructions::{WriteResult, continue_after, continue_if_written};
 use crate::machine::{Flow, FlowResult, VirtualMachine};
+use crate::requests::Request;
 use std::alloc::{AllocError, Global};
 use tera_code::{Chunk, LentInstruction, Steps, Tally};
-use tera_objects::Objects;
 use tera_operators::Operand;
-use tera_state::Stack;
+use tera_state::{Objects, Stack};
 use tera_values::{Error, Name, Shape, Span, Value};
 
 impl<'c> Configuration<'c> {
@@ -264,7 +263,11 @@ impl<'c> Configuration<'c> {
     }
 
     #[inline(never)]
-    fn append_name_fast<O: Objects>(&mut self, machine: &VirtualMachine<'_, O>, name: &Name) -> WriteResult
+    fn append_name_fast<O: Objects>(
+        &mut self,
+        machine: &VirtualMachine<'_, O>,
+        name: &Name,
+    ) -> WriteResult
         ensures { (site : Site) → Does
             (name_written (here_of O.engine machine.now site.file self.old) name.now site.span)
             self.old (continue_if_written site result) self.new }
@@ -282,7 +285,11 @@ impl<'c> Configuration<'c> {
 
     // The same of a name that the innermost turn may not bind. What it looks for takes no room where the turn does.
     #[inline(never)]
-    fn append_name_slow<O: Objects>(&mut self, machine: &VirtualMachine<'_, O>, name: &Name) -> WriteResult
+    fn append_name_slow<O: Objects>(
+        &mut self,
+        machine: &VirtualMachine<'_, O>,
+        name: &Name,
+    ) -> WriteResult
         ensures { (site : Site) → Does
             (name_written (here_of O.engine machine.now site.file self.old) name.now site.span)
             self.old (continue_if_written site result) self.new }

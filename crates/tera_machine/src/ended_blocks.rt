@@ -25,7 +25,12 @@ impl EndedBlocks {
     }
 
     /// These, those that ended in a body, and the block of that body, with its text.
-    pub fn with_block(before: &EndedBlocks, inside: &EndedBlocks, name: &[u8], text: &[u8]) -> EndedBlocks
+    pub fn with_block(
+        before: &EndedBlocks,
+        inside: &EndedBlocks,
+        name: &[u8],
+        text: &[u8],
+    ) -> EndedBlocks
         ensures { result.all ≡ before.now.all ++ (inside.now.all ++ (name.now, text.now) ∷ []) }
     {
         EndedBlocks {}

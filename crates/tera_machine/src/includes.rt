@@ -11,15 +11,15 @@ ghost use Rattle.tera_machine.specs.Open.{TakesBefore};
 ghost use Rattle.tera_machine.specs.Subject.{AreFrom, IsOf, place_at};
 ghost use Rattle.tera_registry.specs.Prelude.{code_of};
 
-use crate::requests::IncludeRequest;
-use crate::open_bodies::OpenBodies;
 use crate::block_bodies::SavedBody;
 use crate::configuration::Configuration;
 use crate::machine::{Limit, VirtualMachine};
+use crate::open_bodies::OpenBodies;
 use crate::open_things::Numbered;
 use crate::refusals::{no_template, open_template};
-use tera_objects::Objects;
+use crate::requests::IncludeRequest;
 use tera_registry::{Body, FoundTemplate};
+use tera_state::Objects;
 use tera_values::TeraResult;
 
 impl<'t> Numbered for FoundTemplate<'t> {

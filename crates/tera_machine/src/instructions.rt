@@ -9,16 +9,15 @@ ghost use Rattle.tera_machine.specs.Subject.{here_of};
 ghost use Rattle.tera_machine.specs.declared.machine.Flow.TheVariants as flow;
 ghost use Rattle.tera_state.specs.Prelude.{around_of};
 
-use crate::requests::{ComponentRequest, Request};
 use crate::configuration::Configuration;
-use crate::machine::{Flow, FlowResult, VirtualMachine};
 use crate::dispatch::push_again;
+use crate::machine::{Flow, FlowResult, VirtualMachine};
+use crate::requests::{ComponentRequest, Request};
 use std::alloc::{AllocError, Global};
 use tera_code::{CallKind, Constant, Instruction, Keys};
 use tera_errors::alloc_result;
-use tera_objects::Objects;
 use tera_operators::Operand;
-use tera_state::FoundValue;
+use tera_state::{FoundValue, Objects};
 use tera_syntax_tree::BinaryOperator;
 use tera_values::{Error, Name, NameRef, Span, TeraResult, Value};
 
@@ -284,7 +283,13 @@ impl<'c> Configuration<'c> {
     }
 
     #[inline(never)]
-    fn load_item<'f>(&mut self, alloc: Global, file: &str, optional: bool, span: Span) -> FlowResult<'f>
+    fn load_item<'f>(
+        &mut self,
+        alloc: Global,
+        file: &str,
+        optional: bool,
+        span: Span,
+    ) -> FlowResult<'f>
         requires { IsReady (item_loaded file.now optional span) self.old }
         ensures { Does (item_loaded file.now optional span) self.old result self.new }
     {
@@ -309,7 +314,11 @@ impl<'c> Configuration<'c> {
     }
 
     #[inline(never)]
-    pub(crate) fn load_constant<'f>(&mut self, constant: &Constant<'_>, span: Span) -> FlowResult<'f>
+    pub(crate) fn load_constant<'f>(
+        &mut self,
+        constant: &Constant<'_>,
+        span: Span,
+    ) -> FlowResult<'f>
         ensures { Does (pushed constant.now span) self.old result self.new }
     {
         self.push_value(constant.load()?, span)
@@ -483,7 +492,12 @@ pub(crate) fn continue_after<'f>(done: Result<(), AllocError>) -> FlowResult<'f>
 
 // The same where a value was put out, and else a fault: it is undefined.
 #[inline(always)]
-pub(crate) fn continue_if_written<'f>(alloc: Global, file: &str, span: Span, is_put: bool) -> FlowResult<'f>
+pub(crate) fn continue_if_written<'f>(
+    alloc: Global,
+    file: &str,
+    span: Span,
+    is_put: bool,
+) -> FlowResult<'f>
     ensures ok { IfOk result (λ on. is_put ≡ true × on ≡ flow.On) }
     ensures err { IfErr result (λ e. is_put ≡ false
         × Tells e (rendering_error (record { file = file.now; span = span }))) }

@@ -20,8 +20,8 @@ use crate::instructions::continue_after;
 use crate::machine::{FlowResult, VirtualMachine};
 use std::alloc::Global;
 use tera_code::{Chunk, IntegerComparison, Steps, Tally};
-use tera_objects::Objects;
 use tera_operators::Operand;
+use tera_state::Objects;
 use tera_syntax_tree::BinaryOperator;
 use tera_values::{Name, Shape, Span, Value};
 

@@ -9,13 +9,12 @@ ghost use Rattle.tera_machine.specs.Loops.{loop_started, turned, loop_ended, kep
 ghost use Rattle.tera_machine.specs.Subject.{here_of};
 
 use crate::configuration::Configuration;
-use crate::machine::{Flow, FlowResult, VirtualMachine};
 use crate::loop_place::LoopPlace;
+use crate::machine::{Flow, FlowResult, VirtualMachine};
 use std::alloc::Global;
 use tera_code::LentName;
-use tera_objects::Objects;
 use tera_operators::{Operand, fault_of_value_at};
-use tera_state::ForLoop;
+use tera_state::{ForLoop, Objects};
 use tera_values::{Span, TeraResult, Value};
 
 // The loop over the operand at its first turn, or none where there is no item. What is no target of a loop is a fault at

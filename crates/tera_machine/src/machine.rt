@@ -1,7 +1,7 @@
 // A run of a body, and of those that it takes.
 ghost use Rattle.std.specs.Prelude.{◌≡◌, ◌≢◌, IfErr, IfOk, IfSome, ℕ, ◌+◌, ◌-◌, ◌*◌, ◌≤◌, [], None, Some, IsTrue, OnOk, string_bytes, map};
 ghost use Rattle.tera_meaning.specs.Prelude.{visits_of, new_registry, alone, block_of, World};
-ghost use Rattle.tera_errors.specs.Prelude.{Gives};
+ghost use Rattle.tera_errors.specs.Prelude.{Gives, Lacks};
 ghost use Rattle.tera_state.specs.Prelude.{around_of};
 ghost use Rattle.tera_code.specs.Prelude.{nodes_code};
 ghost use Rattle.tera_registry.specs.Prelude.{kept_of, code_of};
@@ -11,22 +11,20 @@ ghost use Rattle.tera_machine.specs.Exec.{EndsWithin, Ran};
 ghost use Rattle.tera_machine.specs.Flow.{Written, request_of, use_of, block_request, block_use, include_request, component_request, component_use};
 ghost use Rattle.tera_machine.specs.Bodies.{Stays};
 ghost use Rattle.tera_machine.specs.Open.{TakesBefore, TakesRequested, TakesBody, HasOuter, Resumes};
-ghost use Rattle.tera_errors.specs.Prelude.{Lacks};
 ghost use Rattle.tera_machine.specs.Subject.{Subject, IsLinked, IsOf, Belong, kept_beside, meant_from, engine_of, place_at, place_of, Means};
 
-use crate::requests::{BlockRequest, ComponentRequest, IncludeRequest, Request};
-use crate::open_bodies::OpenBodies;
-use crate::block_bodies::{BodyEnd, ResumePoint, EnteredBlock, Waiting};
-use crate::components::{OneOffComponents, ComponentBody};
-use crate::configuration::Configuration;
+use crate::block_bodies::{BodyEnd, EnteredBlock, ResumePoint, Waiting};
 use crate::call_notes::with_call_notes;
+use crate::components::{ComponentBody, OneOffComponents};
+use crate::configuration::Configuration;
+use crate::open_bodies::OpenBodies;
+use crate::requests::{BlockRequest, ComponentRequest, IncludeRequest, Request};
 use crate::wanted_block::WantedBlock;
 use std::alloc::Global;
 use std::marker::Brand;
 use tera_code::{Steps, Tally};
-use tera_objects::Objects;
 use tera_registry::{Body, FoundTemplate, TextTable};
-use tera_state::Stack;
+use tera_state::{Objects, Stack};
 use tera_values::{Name, TeraResult};
 
 /// Where the machine goes on.
@@ -311,7 +309,14 @@ impl<'t, O: Objects> VirtualMachine<'t, O> {
                 Flow::To(place, count) => at = place + count,
                 Flow::Out => at = chunk.len(),
                 Flow::Call(request) => {
-                    match machine.start_body::<M>(body, next, request, blocks, configuration, open) {
+                    match machine.start_body::<M>(
+                        body,
+                        next,
+                        request,
+                        blocks,
+                        configuration,
+                        open,
+                    ) {
                         Ok(inner) => body = inner,
                         Err(error) => return Err(error),
                     }

@@ -6,8 +6,8 @@ ghost use Rattle.tera_registry.specs.Prelude.{definers_of, AreAmong};
 ghost use Rattle.tera_machine.specs.OpenThings.{nothing, begun, ended_at};
 ghost use Rattle.tera_machine.specs.Bodies.{blocks_opened_by, blocks_closed_by};
 
-use crate::requests::BlockRequest;
 use crate::open_things::{Numbered, OpenThings};
+use crate::requests::BlockRequest;
 use crate::wanted_block::WantedBlock;
 use std::alloc::Global;
 use std::mem::replace;
@@ -97,7 +97,11 @@ impl<'t> OpenBodies<'t> {
     }
 
     /// Opens the body of this definer, and hands those out who were above.
-    pub fn enter(&mut self, asked: BlockRequest<'_>, definer: &Definer<'t>) -> TeraResult<Definers<'t>>
+    pub fn enter(
+        &mut self,
+        asked: BlockRequest<'_>,
+        definer: &Definer<'t>,
+    ) -> TeraResult<Definers<'t>>
         ensures opened { OnOk result (self.new.opened
             ≡ blocks_opened_by asked.entry definer.now.number self.old.opened) }
         ensures above { OnOk result (self.new.above ≡ definer.now.above) }

@@ -21,9 +21,8 @@ use crate::machine::{Flow, FlowResult, VirtualMachine};
 use crate::rendered_text::RenderedText;
 use std::alloc::Global;
 use tera_code::{Chunk, Comparison, Steps, Tally};
-use tera_objects::Objects;
 use tera_operators::{LentOperand, Operand};
-use tera_state::FoundValue;
+use tera_state::{FoundValue, Objects};
 use tera_values::{Name, Span, TeraResult};
 
 /// What a name stands for, where it lies and is no key, counter or flag of a loop.

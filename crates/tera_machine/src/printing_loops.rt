@@ -22,7 +22,7 @@ use crate::instructions::undefined_fault;
 use crate::machine::{Flow, FlowResult, VirtualMachine};
 use crate::rendered_text::RenderedText;
 use tera_code::{Chunk, LentInstruction, Steps, Tally};
-use tera_objects::Objects;
+use tera_state::Objects;
 use tera_values::{Error, Shape, TeraResult, Value};
 
 /// The items of an array, where it has some.

@@ -7,8 +7,7 @@ ghost use Rattle.tera_machine.specs.Layers.{around_layers, joined};
 
 use std::alloc::{AllocError, Global};
 use std::marker::Model;
-use tera_objects::Objects;
-use tera_state::{FoundValue, Stack};
+use tera_state::{FoundValue, Objects, Stack};
 use tera_values::{TeraResult, Value};
 
 /// All that a rendering has written, in one piece. What is captured is the end of it, from where the capture began: a text

@@ -12,8 +12,8 @@ use Rattle.tera_syntax_tree.specs.Delimiters.{Delims}
 use Rattle.tera_syntax_tree.specs.Blocks.{top_blocks}
 use Rattle.tera_syntax_tree.specs.Calls.{Callee, AFilter, ATest, AFunction, AComponent, calls}
 use Rattle.tera_syntax_tree.specs.Includes.{tree_includes}
-use Rattle.tera_objects.specs.Engine.{Engine}
-use Rattle.tera_objects.specs.Laws.{OnlyAdds}
+use Rattle.tera_state.specs.Engine.{Engine}
+use Rattle.tera_state.specs.Laws.{OnlyAdds}
 use Rattle.tera_meaning.specs.Registry.{Entry, Registry, Template}
 use Rattle.tera_meaning.specs.Resolve.{resolve, parents}
 use Rattle.tera_meaning.specs.Lineage.{Definer, ancestors, definers_in}

@@ -7,8 +7,8 @@ use Rattle.tera_values.specs.Named.{Named}
 use Rattle.tera_values.specs.Val.{ValOf}
 use Rattle.tera_state.specs.Scope.{AroundOf, VariablesOf}
 use Rattle.tera_state.specs.View.{View}
-use Rattle.tera_objects.specs.Engine.{Engine}
-use Rattle.tera_objects.specs.Calling.{seen_in, filtered_by, tested_by, called_by}
+use Rattle.tera_state.specs.Engine.{Engine}
+use Rattle.tera_state.specs.Calling.{seen_in, filtered_by, tested_by, called_by}
 
 -- what is fixed while nodes are rendered: the template in whose text they stand,
 -- what is around their variables, the autoescape flag and the engine

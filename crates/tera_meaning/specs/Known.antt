@@ -5,7 +5,7 @@ use Rattle.std.specs.List.{list_any}
 use Rattle.tera_syntax_tree.specs.Tree.{Nodes, Tree}
 use Rattle.tera_syntax_tree.specs.Blocks.{blocks}
 use Rattle.tera_syntax_tree.specs.Calls.{Callee, AFilter, ATest, AFunction, AComponent, calls}
-use Rattle.tera_objects.specs.Engine.{Engine, has_filter, has_test, has_function}
+use Rattle.tera_state.specs.Engine.{Engine, has_filter, has_test, has_function}
 
 -- with this engine, where these components are there
 abbrev pub is_known : Engine → (Name → Bool) → Callee → Bool

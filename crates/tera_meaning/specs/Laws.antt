@@ -8,8 +8,8 @@ use Rattle.tera_values.specs.Named.{Named}
 use Rattle.tera_syntax_tree.specs.Blocks.{top_blocks}
 use Rattle.tera_syntax_tree.specs.Calls.{calls}
 use Rattle.tera_syntax_tree.specs.Includes.{tree_includes}
-use Rattle.tera_objects.specs.Engine.{Engine}
-use Rattle.tera_objects.specs.Laws.{OnlyAdds}
+use Rattle.tera_state.specs.Engine.{Engine}
+use Rattle.tera_state.specs.Laws.{OnlyAdds}
 use Rattle.tera_meaning.specs.Registry.{Entry, Registry, Template}
 use Rattle.tera_meaning.specs.Resolve.{resolve, parents}
 use Rattle.tera_meaning.specs.Lineage.{ancestors, definers_in}

@@ -14,4 +14,5 @@ pub mod Whole
 pub mod BodyLaws
 pub mod Rendering
 pub mod Variables
+pub mod Marks
 pub mod Prelude

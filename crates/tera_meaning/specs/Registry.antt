@@ -5,7 +5,7 @@ use Rattle.tera_values.specs.Named.{Named}
 use Rattle.tera_errors.specs.Site.{Name, Text}
 use Rattle.tera_syntax_tree.specs.Tree.{Tree}
 use Rattle.tera_syntax_tree.specs.Delimiters.{Delims, standard}
-use Rattle.tera_objects.specs.Engine.{Engine, standard_engine}
+use Rattle.tera_state.specs.Engine.{Engine, standard_engine}
 
 -- a template: its text, and the tree that the text spells
 pub record Template : Type 0 where

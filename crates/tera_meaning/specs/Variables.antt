@@ -9,7 +9,7 @@ use Rattle.tera_values.specs.Named.{name_cmp}
 use Rattle.tera_meaning.specs.Registry.{Entry, Registry}
 use Rattle.tera_meaning.specs.Lineage.{ancestors}
 use Rattle.tera_meaning.specs.Accepted.{includes_of}
-use Rattle.tera_variables.specs.Free.{Names, nobody, ◌∪◌, free}
+use Rattle.tera_syntax_tree.specs.Free.{Names, nobody, ◌∪◌, free}
 
 -- a name is free in one of these
 abbrev pub in_one_of : {A : Type 0} → (A → Names) → List A → Names

@@ -8,8 +8,8 @@ use Rattle.tera_syntax_tree.specs.Tree.{Key}
 use Rattle.tera_values.specs.Val.{Val, KeyVal, ktext, undefined}
 use Rattle.tera_values.specs.Keys.{key_cmp}
 use Rattle.tera_values.specs.Access.{key_eq, find, insert_pair}
-use Rattle.tera_values_data.proofs.Keys.{key_exact, is_eq_true}
-use Rattle.tera_values_data.proofs.Symmetric.{find_inserted, find_other}
+use Rattle.tera_value_types.proofs.Keys.{key_exact, is_eq_true}
+use Rattle.tera_value_types.proofs.Symmetric.{find_inserted, find_other}
 use Rattle.tera_operators.specs.Operand.{Evaluated}
 use Rattle.tera_operators.specs.Literals.{key_val, inserted, from_left}
 use Rattle.tera_operators.specs.Entries.{listed, is_at, is_key_named, is_named, are_named, AreAmong}

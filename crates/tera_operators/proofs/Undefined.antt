@@ -5,7 +5,7 @@ use Rattle.tera_values.specs.Val.{Val, undefined}
 use Rattle.tera_values.specs.Access.{is_undefined}
 use Rattle.tera_values.specs.Order.{checked_order, order, same}
 use Rattle.tera_values.specs.Laws.{order_total}
-use Rattle.tera_values_data.proofs.Symmetric.{comparable_sym}
+use Rattle.tera_value_types.proofs.Symmetric.{comparable_sym}
 
 pub undefined_is_same : (v : Val) → same undefined v ≡ is_undefined v
 undefined_is_same undefined = refl

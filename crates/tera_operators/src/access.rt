@@ -118,7 +118,13 @@ pub fn item(
         return Ok(Operand::new(Value::undefined(), span));
     }
     let answer = target.value().get_item(alloc, index.value());
-    operand_or_fault(alloc, file, answer, index.span(), span_of_both(target, index))
+    operand_or_fault(
+        alloc,
+        file,
+        answer,
+        index.span(),
+        span_of_both(target, index),
+    )
 }
 
 #[inline(never)]

@@ -73,7 +73,11 @@ pub(crate) struct OperandPair<'a> {
 impl<'a> OperandPair<'a> {
     /// The number, or the fault, at the combined span.
     #[inline(always)]
-    pub(crate) fn result_at_combined_span(self, alloc: Global, answer: TeraResult<Value>) -> TeraResult<Operand>
+    pub(crate) fn result_at_combined_span(
+        self,
+        alloc: Global,
+        answer: TeraResult<Value>,
+    ) -> TeraResult<Operand>
         ensures value { (meant : Result Val Fault) → Gives (λ v. v) answer meant →
             Gives (λ o. o) result (combined self.entry.file.now
             self.entry.left.now self.entry.right.now meant) }
@@ -86,7 +90,11 @@ impl<'a> OperandPair<'a> {
     /// The same of a calculation with two numbers: an operand that is none is the fault before all else. Only where the number
     /// was refused are the operands looked at, since what gives a number was given two.
     #[inline(always)]
-    pub(crate) fn calculation_result(self, alloc: Global, answer: TeraResult<Value>) -> TeraResult<Operand>
+    pub(crate) fn calculation_result(
+        self,
+        alloc: Global,
+        answer: TeraResult<Value>,
+    ) -> TeraResult<Operand>
         ensures value { (f : ℤ → ℤ → Result Val Fault) →
             Gives (λ v. v) answer
             (on_integers f (integers self.entry.left.now.value self.entry.right.now.value)) →
@@ -102,7 +110,11 @@ impl<'a> OperandPair<'a> {
 
     /// The same of a division, at whose zero divisor the fault is at the right operand.
     #[inline(always)]
-    pub(crate) fn division_result(self, alloc: Global, answer: TeraResult<Value>) -> TeraResult<Operand>
+    pub(crate) fn division_result(
+        self,
+        alloc: Global,
+        answer: TeraResult<Value>,
+    ) -> TeraResult<Operand>
         ensures value { (f : ℤ → ℤ → Result Val Fault) →
             let divide : Val → Val → Result Val Fault =
             λ v w. on_integers (λ a b. unless_zero b (f a b)) (integers v w) in

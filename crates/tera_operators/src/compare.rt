@@ -120,7 +120,12 @@ impl<'v> LentOperand<'v> {
 
     // How the operand stands to the right one; a fault at the combined span where the two are not comparable.
     #[inline(always)]
-    fn order_or_fault(&self, alloc: Global, file: &str, right: &LentOperand<'_>) -> TeraResult<Ordering>
+    fn order_or_fault(
+        &self,
+        alloc: Global,
+        file: &str,
+        right: &LentOperand<'_>,
+    ) -> TeraResult<Ordering>
         ensures value { Gives (λ o. o) result (standing_of file.now self.now right.now) }
         ensures ready { IsOk (standing_of file.now self.now right.now) → IsOk result }
     {

@@ -78,7 +78,11 @@ fn keep_all(all: &mut Map, more: &Map) -> TeraResult<()>
 }
 
 /// The entries from left to right; a key that is there takes the later value.
-fn map_from_left(alloc: Global, keys: &[Option<OwnedKey>], operands: Vec<Operand>) -> TeraResult<Map>
+fn map_from_left(
+    alloc: Global,
+    keys: &[Option<OwnedKey>],
+    operands: Vec<Operand>,
+) -> TeraResult<Map>
     requires { length keys.now ≡ length operands.items }
     ensures { Gives (λ m. m) result
         (Ok (from_left [] (zip (map_list key_option keys.now) operands.items))) }

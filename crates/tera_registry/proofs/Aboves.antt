@@ -9,7 +9,7 @@ use Rattle.std.proofs.lemmas.Simd.{map-map}
 use mathlib.Core.Path.{fun_ext}
 use Rattle.tera_errors.specs.Site.{Name}
 use Rattle.tera_syntax_tree.specs.Tree.{Signature, Nodes}
-use Rattle.tera_objects.specs.Engine.{Engine}
+use Rattle.tera_state.specs.Engine.{Engine}
 use Rattle.tera_meaning.specs.Registry.{Registry, LinkedBody}
 use Rattle.tera_meaning.specs.Lineage.{ancestors}
 use Rattle.tera_registry.specs.declared.code.TemplateBlock.{TemplateBlock}

@@ -9,7 +9,7 @@ use Rattle.tera_errors.specs.Fault.{Fault, message, circular_include}
 use Rattle.tera_errors.specs.Answer.{SeenError, Says, SaysOneOf}
 use Rattle.tera_syntax_tree.specs.Delimiters.{Delims}
 use Rattle.tera_values.specs.Named.{Named, put_all}
-use Rattle.tera_objects.specs.Engine.{Engine}
+use Rattle.tera_state.specs.Engine.{Engine}
 use Rattle.tera_meaning.specs.Registry.{Template, Entry, Registry, new_registry}
 use Rattle.tera_meaning.specs.Accepted.{fault_of_parents, includes_of, can_walk, fault_if, template_fault, first_fault, missing, fault}
 use Rattle.tera_syntax_tree.specs.Definitions.{component_names}

@@ -9,7 +9,7 @@ use Rattle.tera_syntax_tree.specs.Tree.{Tree, Signature, Nodes}
 use Rattle.tera_syntax_tree.specs.Blocks as in_tree
 use Rattle.tera_code.specs.Listing.{Listing}
 use Rattle.tera_code.specs.Code.{nodes_code}
-use Rattle.tera_objects.specs.Engine.{Engine}
+use Rattle.tera_state.specs.Engine.{Engine}
 use Rattle.tera_meaning.specs.Registry.{Registry}
 use Rattle.tera_meaning.specs.Known.{lacks_a_callee}
 use Rattle.tera_meaning.specs.Components.{Component, component_named, component, one_off_name}

@@ -10,7 +10,7 @@ use Rattle.tera_code.specs.Listing.{Listing}
 use Rattle.tera_code.specs.Code.{Code, nodes_code}
 use Rattle.tera_code.specs.Called.{called_by, callees}
 use Rattle.tera_code.proofs.Callees.{code_calls_the_same}
-use Rattle.tera_objects.specs.Engine.{Engine}
+use Rattle.tera_state.specs.Engine.{Engine}
 use Rattle.tera_meaning.specs.Known.{is_known, has_unknown, lacks_a_callee}
 use Rattle.tera_registry.specs.declared.components.Component.{Component}
 use Rattle.tera_registry.specs.Components.{kept_of, kept_as, kept_all}

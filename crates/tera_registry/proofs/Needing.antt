@@ -18,7 +18,7 @@ use Rattle.tera_code.specs.Listing.{Listing}
 use Rattle.tera_code.specs.Code.{Code, nodes_code, listing_of}
 use Rattle.tera_code.specs.Called.{called_by, callees}
 use Rattle.tera_code.proofs.Callees.{code_calls_the_same}
-use Rattle.tera_objects.specs.Engine.{Engine, own_or_built_in}
+use Rattle.tera_state.specs.Engine.{Engine, own_or_built_in}
 use Rattle.tera_meaning.specs.Known.{is_known, has_unknown, lacks_a_callee, bodies}
 use Rattle.tera_registry.specs.declared.code.TemplateBlock.{TemplateBlock}
 use Rattle.tera_registry.specs.declared.components.Component.{Component}

@@ -9,8 +9,8 @@ use Rattle.std.specs.Ordering.{is_eq, nat_cmp}
 use Rattle.std.specs.String.{string_cmp}
 use Rattle.std.proofs.lemmas.Map.Text.{is_eq-slice_cmp}
 use Rattle.tera_syntax_tree.specs.Blocks.{is_among}
-use Rattle.tera_variables.specs.Sets.{names_in}
-use Rattle.tera_variables.proofs.Unions.{those}
+use Rattle.tera_syntax_tree.specs.Sets.{names_in}
+use Rattle.tera_syntax_tree.proofs.Unions.{those}
 use Rattle.tera_registry.proofs.Adds.{bare}
 use Rattle.tera_registry.proofs.Listed.{keys-ascend}
 use Rattle.std.specs.List.{list_any, cons_option}
@@ -25,7 +25,7 @@ use Rattle.tera_meaning.specs.Accepted.{includes_of, can_walk, leads_into_a_circ
 use Rattle.tera_meaning.specs.Components.{has_a_tie}
 use Rattle.tera_meaning.specs.Lineage.{ancestors}
 use Rattle.tera_meaning.specs.Variables.{free_within, in_one_of, given, if_given, given_in, variables, AreVariables, AnswersVariables}
-use Rattle.tera_variables.specs.Free.{Names, nobody, only, free, ◌∪◌}
+use Rattle.tera_syntax_tree.specs.Free.{Names, nobody, only, free, ◌∪◌}
 use Rattle.tera_registry.specs.Definers.{Grounded}
 use Rattle.tera_registry.specs.Edges.{all_at}
 use Rattle.tera_registry.specs.Kept.{entries_of, seen}

@@ -8,7 +8,7 @@ use Rattle.tera_syntax_tree.specs.Calls.{Callee}
 use Rattle.tera_code.specs.declared.instruction.Instruction.{Instruction}
 use Rattle.tera_code.specs.Code.{Code}
 use Rattle.tera_code.specs.Called.{called_by}
-use Rattle.tera_objects.specs.Engine.{Engine}
+use Rattle.tera_state.specs.Engine.{Engine}
 use Rattle.tera_meaning.specs.Known.{is_known}
 use Rattle.tera_registry.specs.declared.component_table.ComponentAt.{ComponentAt}
 use Rattle.tera_registry.specs.declared.components.Component.{Component}

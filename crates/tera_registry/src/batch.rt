@@ -14,21 +14,21 @@ ghost use Rattle.tera_registry.specs.OutsideCalls.{needs_of};
 
 use crate::code::{Code, TemplateBlock};
 use crate::components::{Component, components};
-use crate::template_tree::TemplateTree;
 use crate::merge::{merge, sort};
-use crate::resolve::put;
 use crate::node_names::{Naming, all_includes, names_in};
 use crate::outside_calls::{OutsideCall, outside_calls};
 use crate::places::block_places;
+use crate::resolve::put;
 use crate::template::Template;
+use crate::template_tree::TemplateTree;
 use std::alloc::{AllocError, Global};
 use std::rc::Rc;
 use tera_code::blocks::blocks;
 use tera_code::{BlockCode, compile_body};
 use tera_errors::TeraResult;
 use tera_syntax::parse;
+use tera_syntax_tree::variables::free_names;
 use tera_syntax_tree::{Delimiters, ParserOutput, Quoted};
-use tera_variables::free_names;
 
 /// Reads each text and puts it at its name, up to the first that spells no tree.
 pub fn put_all(

@@ -5,8 +5,8 @@ ghost use Rattle.tera_code.specs.contracts.chunk.Chunk as chunk;
 ghost use Rattle.tera_registry.specs.Kept.{seen};
 ghost use Rattle.tera_registry.specs.References.{IsLinked, IsLinked-prop};
 
+use crate::body_table::{Link, LinkedBody};
 use crate::code::{Code, rank};
-use crate::body_table::{LinkedBody, Link};
 use crate::templates::{Defined, FoundTemplate, Templates};
 use tera_code::Chunk;
 

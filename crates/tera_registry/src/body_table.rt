@@ -12,13 +12,13 @@ ghost use Rattle.tera_registry.specs.Linking.{AreLinked, Knows, above_block};
 ghost use Rattle.tera_registry.specs.Numbers.{above_in, above_of, aboves, blocks_in, first_of, lineage};
 ghost use Rattle.tera_registry.specs.References.{LeadsTo, AreLinks, IsLinked, chunk_of, place_of, choice_of};
 
-use crate::component_table::ComponentAt;
 use crate::code::{Code, Take, TemplateBlock};
+use crate::component_table::ComponentAt;
 use crate::definers::first_definer_above;
 use crate::has_body::HasBody;
-use crate::roots::Parent;
-use crate::resolve::resolve;
 use crate::numbers::{block_number, starts};
+use crate::resolve::resolve;
+use crate::roots::Parent;
 use crate::template::Template;
 use std::alloc::{AllocError, Global};
 use std::collections::BTreeMap;

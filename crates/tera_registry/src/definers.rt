@@ -14,12 +14,12 @@ ghost use Rattle.tera_registry.specs.Walks.{rows};
 
 use crate::component_table::ComponentAt;
 use crate::missing_callees::is_known;
-use crate::roots::Parent;
 use crate::outside_calls::OutsideCall;
+use crate::roots::Parent;
 use crate::template::Template;
 use std::collections::BTreeMap;
 use std::rc::Rc;
-use tera_objects::Objects;
+use tera_state::Objects;
 use tera_values::NameRef;
 
 /// Where a block stands: the position of its template, and which of its blocks it is.
@@ -38,7 +38,12 @@ fn own_block(template: &Template, block: &NameRef<'_>) -> Option<usize>
 }
 
 /// Where the first of those stands who define a block, from a template on: itself, then its parents.
-pub fn first_definer(templates: &[Rc<Template>], ups: &[Parent], from: usize, block: &NameRef<'_>) -> Option<BlockAt>
+pub fn first_definer(
+    templates: &[Rc<Template>],
+    ups: &[Parent],
+    from: usize,
+    block: &NameRef<'_>,
+) -> Option<BlockAt>
     ghost registry: { Registry }
     requires climbable { Climbable registry templates.now ups.now }
     requires there { from < length templates.now }
@@ -117,18 +122,28 @@ fn has_missing_include(of: &Template, included: usize) -> bool
 }
 
 /// Whether what is needed is not there: no object, and no component.
-fn is_missing_call<O: Objects>(objects: &O, choices: &BTreeMap<String, ComponentAt>, need: &OutsideCall) -> bool
+fn is_missing_call<O: Objects>(
+    objects: &O,
+    choices: &BTreeMap<String, ComponentAt>,
+    need: &OutsideCall,
+) -> bool
     ensures { result ≡ is_missing_call (O.engine objects.now) (is_there choices.now []) need.now }
 {
     !is_known(objects, choices, None, need.callee())
 }
 
 /// Whether something of what is needed is not there.
-fn has_missing_call<O: Objects>(objects: &O, choices: &BTreeMap<String, ComponentAt>, needs: &[OutsideCall]) -> bool
+fn has_missing_call<O: Objects>(
+    objects: &O,
+    choices: &BTreeMap<String, ComponentAt>,
+    needs: &[OutsideCall],
+) -> bool
     ensures { result
         ≡ list_any (is_missing_call (O.engine objects.now) (is_there choices.now [])) needs.now }
 {
-    needs.iter().any(|need| is_missing_call(objects, choices, need))
+    needs
+        .iter()
+        .any(|need| is_missing_call(objects, choices, need))
 }
 
 /// Whether a template calls what is not there. What is built in is none of its needs.

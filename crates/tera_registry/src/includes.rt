@@ -11,13 +11,21 @@ use std::rc::Rc;
 use tera_syntax_tree::{DefinedComponent, Node, ParserOutput};
 
 /// Whether a text includes what is not there, in its nodes or in a component. Takes no memory.
-pub fn has_missing_include(output: &ParserOutput, templates: &[Rc<Template>], prefixes: &[String]) -> bool
+pub fn has_missing_include(
+    output: &ParserOutput,
+    templates: &[Rc<Template>],
+    prefixes: &[String],
+) -> bool
     requires { Rises (entries_of templates.now) }
     ensures { result
         ≡ misses_an_include (seen templates.now prefixes.now) (tree_of output.now) }
 {
     nodes_have_missing_include(output.nodes.as_slice(), templates, prefixes)
-        || components_have_missing_include(output.component_definitions.as_slice(), templates, prefixes)
+        || components_have_missing_include(
+            output.component_definitions.as_slice(),
+            templates,
+            prefixes,
+        )
 }
 
 // Whether components include what is not there.
@@ -41,7 +49,11 @@ fn components_have_missing_include(
 
 // Whether nodes include what is not there.
 #[cycle(missing)]
-fn nodes_have_missing_include(nodes: &[Node], templates: &[Rc<Template>], prefixes: &[String]) -> bool
+fn nodes_have_missing_include(
+    nodes: &[Node],
+    templates: &[Rc<Template>],
+    prefixes: &[String],
+) -> bool
     requires { Rises (entries_of templates.now) }
     ensures { let r = seen templates.now prefixes.now in
         result ≡ list_any (λ name. is_none (resolve r name)) (includes (nodes_of nodes.now)) }
@@ -66,10 +78,18 @@ fn node_has_missing_include(node: &Node, templates: &[Rc<Template>], prefixes: &
             nodes_have_missing_include(body.as_slice(), templates, prefixes)
                 || nodes_have_missing_include(other.as_slice(), templates, prefixes)
         }
-        Node::Block(block) => nodes_have_missing_include(block.body.as_slice(), templates, prefixes),
+        Node::Block(block) => nodes_have_missing_include(
+            block.body.as_slice(),
+            templates,
+            prefixes,
+        ),
         Node::Capture { body, .. }
         | Node::FilterSection { body, .. }
-        | Node::ComponentCall { body, .. } => nodes_have_missing_include(body.as_slice(), templates, prefixes),
+        | Node::ComponentCall { body, .. } => nodes_have_missing_include(
+            body.as_slice(),
+            templates,
+            prefixes,
+        ),
         Node::Include { name, .. } => resolve(templates, prefixes, name.as_str()).is_none(),
         Node::Content { .. }
         | Node::Print { .. }

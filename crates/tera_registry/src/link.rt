@@ -10,20 +10,20 @@ ghost use Rattle.tera_registry.specs.Bodies.{listings, AreStarts};
 ghost use Rattle.tera_registry.specs.Numbers.{above_of, aboves};
 ghost use Rattle.tera_registry.specs.References.{chunk_of, IsLinked};
 
+use crate::body_table::{BodyTable, table_of};
 use crate::component_table::{ComponentAt, ComponentTable, components_by_name};
 use crate::definers::any_is_incomplete;
+use crate::include_circles::least_circle;
 use crate::include_edges::edges;
 use crate::roots::{Parent, parents_of_all, roots};
-use crate::body_table::{BodyTable, table_of};
 use crate::template::Template;
 use crate::told_circles::fault_in_words;
 use crate::told_missing::all_missing;
-use crate::include_circles::least_circle;
 use std::alloc::Global;
 use std::collections::BTreeMap;
 use std::rc::Rc;
 use tera_errors::TeraResult;
-use tera_objects::Objects;
+use tera_state::Objects;
 
 /// How templates go together: what each extends, the position of the last parent of each, and which definition of each
 /// component is taken, and what code names of all that.

@@ -5,12 +5,12 @@ ghost use Rattle.tera_code.specs.Prelude.{callee_of, called_by};
 ghost use Rattle.tera_meaning.specs.Prelude.{is_known};
 ghost use Rattle.tera_registry.specs.Known.{beside, is_there, is_missing, code_lacks};
 
-use crate::component_table::ComponentAt;
 use crate::code::Code;
+use crate::component_table::ComponentAt;
 use crate::text_components::TextComponents;
 use std::collections::BTreeMap;
 use tera_code::{Callee, Chunk};
-use tera_objects::Objects;
+use tera_state::Objects;
 
 /// Whether one of the components of a text has this name, where there is a text.
 fn is_own(own: Option<TextComponents<'_>>, name: &str) -> bool
@@ -23,7 +23,11 @@ fn is_own(own: Option<TextComponents<'_>>, name: &str) -> bool
 }
 
 /// Whether a template defines a component of this name, or it is one of these.
-fn is_there(choices: &BTreeMap<String, ComponentAt>, own: Option<TextComponents<'_>>, name: &str) -> bool
+fn is_there(
+    choices: &BTreeMap<String, ComponentAt>,
+    own: Option<TextComponents<'_>>,
+    name: &str,
+) -> bool
     ensures { result ≡ is_there choices.now (beside own.entry) name.now }
 {
     choices.contains_key(name) || is_own(own, name)
@@ -86,7 +90,11 @@ pub fn code_has_missing_callee<O: Objects>(
 }
 
 /// Whether the code of one of a text's components calls what is not there. Takes no memory.
-pub fn any_has_missing_callee<O: Objects>(objects: &O, choices: &BTreeMap<String, ComponentAt>, own: TextComponents<'_>) -> bool
+pub fn any_has_missing_callee<O: Objects>(
+    objects: &O,
+    choices: &BTreeMap<String, ComponentAt>,
+    own: TextComponents<'_>,
+) -> bool
     ensures { let there = is_there choices.now (beside (Option.Some own.entry)) in
         result ≡ list_any
         (λ c. code_lacks (O.engine objects.now) there c.code.value.chunk.code)

@@ -67,7 +67,12 @@ fn outside_call_of(alloc: Global, callee: Callee<'_>) -> TeraResult<OutsideCall>
 }
 
 /// Puts what the instruction at this position calls behind what was found, unless it is built in.
-fn add_outside_call(alloc: Global, chunk: &Chunk, position: usize, needs: &mut Vec<OutsideCall>) -> TeraResult<()>
+fn add_outside_call(
+    alloc: Global,
+    chunk: &Chunk,
+    position: usize,
+    needs: &mut Vec<OutsideCall>,
+) -> TeraResult<()>
     ensures ok { let needed = option_and_then needed_by (slice_get chunk.now.code position) in
         OnOk result (needs.new.items ≡ needs.old.items ++ cons_option needed []) }
     ensures lacks { IfErr result Lacks }

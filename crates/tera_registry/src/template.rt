@@ -2,7 +2,7 @@
 ghost use Rattle.std.specs.Prelude.{◌≡◌, map, option_map, string_bytes};
 ghost use Rattle.std.specs.Coded.{codes};
 ghost use Rattle.tera_syntax_tree.specs.Blocks as in_tree;
-ghost use Rattle.tera_syntax_tree.specs.Prelude.{definitions_of, nodes_of, tree_includes};
+ghost use Rattle.tera_syntax_tree.specs.Prelude.{definitions_of, nodes_of, tree_includes, names_in};
 ghost use Rattle.tera_components.specs.Prelude.{definition_coding};
 ghost use Rattle.tera_registry.specs.Components as kept;
 ghost use Rattle.tera_registry.specs.TemplateTree.{tree_meant};
@@ -11,13 +11,12 @@ ghost use Rattle.tera_registry.specs.Places.{ArePlaces};
 ghost use Rattle.tera_registry.specs.contracts.outside_calls.OutsideCall as need;
 ghost use Rattle.tera_code.specs.Prelude.{block_listings, listing_of};
 ghost use Rattle.tera_code.specs.contracts.chunk.Chunk as chunk;
-ghost use Rattle.tera_variables.specs.Free as in_text;
-ghost use Rattle.tera_variables.specs.Prelude.{names_in};
+ghost use Rattle.tera_syntax_tree.specs.Free as in_text;
 
 use crate::code::{Code, TemplateBlock};
 use crate::components::Component;
-use crate::template_tree::TemplateTree;
 use crate::outside_calls::OutsideCall;
+use crate::template_tree::TemplateTree;
 use std::collections::{BTreeMap, BTreeSet};
 use std::rc::Rc;
 use tera_values::Name;

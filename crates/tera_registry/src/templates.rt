@@ -19,13 +19,13 @@ ghost use Rattle.tera_registry.specs.Batch.{ConfiguresOneOf, Adds, pairs_of};
 
 use crate::batch::put_all;
 use crate::body::Body;
+use crate::body_table::{BodyTable, Targets};
 use crate::component_table::ComponentAt;
 use crate::definers::first_definer;
 use crate::includes::has_missing_include;
-use crate::roots::Parent;
 use crate::link::link;
 use crate::resolve::resolve;
-use crate::body_table::{BodyTable, Targets};
+use crate::roots::Parent;
 use crate::template::Template;
 use crate::variables::variables;
 use std::alloc::Global;
@@ -33,7 +33,7 @@ use std::collections::{BTreeMap, BTreeSet};
 use std::rc::Rc;
 use tera_components::ComponentDefinition;
 use tera_errors::{Error, TeraResult};
-use tera_objects::Objects;
+use tera_state::Objects;
 use tera_syntax_tree::{Delimiters, ParserOutput};
 use tera_values::{Name, NameRef};
 

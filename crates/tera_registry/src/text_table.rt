@@ -17,19 +17,19 @@ ghost use Rattle.tera_registry.specs.References.{chunk_of, IsLinked, IsLinked-pr
 ghost use Rattle.tera_registry.specs.Templates.{with_templates};
 
 use crate::body::Body;
+use crate::body_table::LinkedBody;
 use crate::code::Code;
 use crate::components::Component;
 use crate::missing_callees::{any_has_missing_callee, code_has_missing_callee};
-use crate::text_components::TextComponents;
 use crate::places::component_places;
-use crate::body_table::LinkedBody;
 use crate::templates::{Defined, Templates};
-use crate::told_missing::{NamedText, Inventory, all_missing_beside};
+use crate::text_components::TextComponents;
+use crate::told_missing::{Inventory, NamedText, all_missing_beside};
 use std::alloc::Global;
 use std::collections::BTreeMap;
 use tera_code::Chunk;
 use tera_errors::{Error, TeraResult};
-use tera_objects::Objects;
+use tera_state::Objects;
 
 /// A text beside templates: its body and those of the components that it defines, linked to these templates. A component is found by
 /// its name in a map.
@@ -117,7 +117,8 @@ impl<'t> TextTable<'t> {
             places: &self.places,
         };
         let code: &Code = &self.body.code;
-        code_has_missing_callee(objects, choices, Some(own), &code.chunk) || any_has_missing_callee(objects, choices, own)
+        code_has_missing_callee(objects, choices, Some(own), &code.chunk)
+            || any_has_missing_callee(objects, choices, own)
     }
 
     /// One refusal that names all that it calls and includes and that is not there.

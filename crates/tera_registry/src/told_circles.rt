@@ -2,8 +2,8 @@
 ghost use Rattle.std.specs.Prelude.{◌≡◌};
 
 use crate::circle_search::circle_of;
-use crate::roots::Parent;
 use crate::priority::priority;
+use crate::roots::Parent;
 use crate::template::Template;
 use crate::told_missing::add_templates;
 use std::alloc::{AllocError, Global};

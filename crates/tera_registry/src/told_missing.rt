@@ -6,15 +6,15 @@ ghost use Rattle.tera_registry.specs.Definers.{Climbable};
 ghost use Rattle.tera_registry.specs.Kept.{Rises, entries_of};
 
 use crate::applications::position_of_name;
-use crate::component_table::ComponentAt;
 use crate::code::Code;
+use crate::component_table::ComponentAt;
 use crate::components::Component;
 use crate::definers::first_definer_above;
 use crate::missing_callees::is_known;
-use crate::roots::Parent;
 use crate::resolve::resolve;
-use crate::text_components::TextComponents;
+use crate::roots::Parent;
 use crate::template::Template;
+use crate::text_components::TextComponents;
 use std::alloc::{AllocError, Global};
 use std::collections::BTreeMap;
 use std::ops::Range;
@@ -22,7 +22,7 @@ use std::rc::Rc;
 use tera_built_ins::names::{FILTERS, FUNCTIONS, TESTS};
 use tera_code::{Callee, Chunk, Target};
 use tera_errors::{Error, Guess, Place, Span, place_of};
-use tera_objects::Objects;
+use tera_state::Objects;
 
 /// For so many of the names that are not there, one is sought that may be meant: it takes a look at all names.
 const MOST_GUESSES: usize = 20;
@@ -111,7 +111,12 @@ pub(crate) fn all_missing_beside<O: Objects>(
 
 impl<'a, O: Objects> Inventory<'a, O> {
     // Puts what the template at a position lacks.
-    fn put_template(&self, ups: &[Parent], of: usize, missing: &mut Missing) -> Result<(), AllocError>
+    fn put_template(
+        &self,
+        ups: &[Parent],
+        of: usize,
+        missing: &mut Missing,
+    ) -> Result<(), AllocError>
         ghost registry: { Registry }
         requires rises { Rises (entries_of self.now.templates.now) }
         requires climbable { Climbable registry self.now.templates.now ups.now }

@@ -4,20 +4,20 @@ ghost use Rattle.std.specs.BTreeSet.{IsOrdered};
 ghost use Rattle.std.specs.String.{string_cmp};
 ghost use Rattle.tera_errors.specs.Prelude.{Lacks};
 ghost use Rattle.tera_meaning.specs.Prelude.{includes_of, ancestors, Entry, given, if_given, given_in, variables};
-ghost use Rattle.tera_variables.specs.Prelude.{only, ◌∪◌, names_in};
+ghost use Rattle.tera_syntax_tree.specs.Prelude.{only, ◌∪◌, names_in};
 ghost use Rattle.tera_registry.specs.Definers.{Grounded};
 ghost use Rattle.tera_registry.specs.Edges.{all_at, AreThere};
 ghost use Rattle.tera_registry.specs.Kept.{Rises, entry_of, entries_of, seen};
 ghost use Rattle.tera_registry.specs.Reached.{AreReached, Reaches, IsClosure, Uncircled};
 
-use crate::roots::{Parent, parent_of};
 use crate::resolve::resolve;
+use crate::roots::{Parent, parent_of};
 use crate::template::Template;
 use std::alloc::{AllocError, Global};
 use std::collections::BTreeSet;
 use std::rc::Rc;
 use tera_errors::TeraResult;
-use tera_variables::add;
+use tera_syntax_tree::variables::add;
 
 /// Where a template and its parents stand, nearest first.
 fn lineage(

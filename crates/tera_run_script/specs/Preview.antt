@@ -7,9 +7,8 @@ use Rattle.tera.specs.Named.{Named, with_names}
 use Rattle.tera.specs.Val.{Val}
 use Rattle.tera.specs.Definition.{Info}
 use Rattle.tera.specs.Components.{AreComponentNames}
-use Rattle.tera.specs.Registry.{Registry}
+use Rattle.tera.specs.Registry.{Registry, info_at}
 use Rattle.tera.specs.Rendering.{render_component}
-use Rattle.tera.specs.Registry.{info_at}
 use Rattle.tera_run_script.specs.Reply.{fault_line}
 
 -- the entries that the parameters of this component name

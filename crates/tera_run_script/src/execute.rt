@@ -64,7 +64,11 @@ fn reply_to<'a, O: Objects>(
         Command::Str { autoescape, body } => {
             text_reply(engine.render_str(body, context, *autoescape))
         }
-        Command::Template { name, body } => done_reply(add_to_batch(&mut session.batch, name, body)),
+        Command::Template { name, body } => done_reply(add_to_batch(
+            &mut session.batch,
+            name,
+            body,
+        )),
         Command::Add => done_reply(add(engine, &mut session.batch)),
         Command::Suffix { suffixes } => done_reply(engine.autoescape_on(suffixes.as_slice())),
         Command::Prefix { prefixes } => {
@@ -144,7 +148,11 @@ fn put_text(
 }
 
 // Lets a template wait.
-fn add_to_batch<'a>(batch: &mut Vec<(&'a str, &'a str)>, name: &'a str, body: &'a str) -> TeraResult<()>
+fn add_to_batch<'a>(
+    batch: &mut Vec<(&'a str, &'a str)>,
+    name: &'a str,
+    body: &'a str,
+) -> TeraResult<()>
     ensures ok { OnOk result
         (pairs_of batch.new.items ≡ pairs_of batch.old.items ++ (name.now, body.now) ∷ []) }
     ensures err { IfErr result (λ e. Lacks e) }

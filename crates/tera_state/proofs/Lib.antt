@@ -14,3 +14,9 @@ pub mod Rising
 pub mod BindingMap
 pub mod Alike
 pub mod FoundNames
+pub mod Listed
+pub mod Each
+pub mod Taken
+pub mod Called
+pub mod Registered
+pub mod Standing

@@ -14,4 +14,14 @@ pub mod Scopes
 pub mod Rendered
 pub mod FoundNames
 pub mod View
+pub mod Engine
+pub mod Calling
+pub mod Called
+pub mod BuiltIn
+pub mod Table
+pub mod Taken
+pub mod Kept
+pub mod Moving
+pub mod Stored
+pub mod Laws
 pub mod Prelude

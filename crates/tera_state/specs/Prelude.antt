@@ -5,3 +5,5 @@ pub use Rattle.tera_state.specs.Opened.{turns_left}
 pub use Rattle.tera_state.specs.Scopes.{around_of, coming_of, variables_of}
 pub use Rattle.tera_state.specs.Rendered.{rendered}
 pub use Rattle.tera_state.specs.View.{filters_left, view_at, view_of}
+pub use Rattle.tera_state.specs.Engine.{with_escape, with_filter, with_function, with_test}
+pub use Rattle.tera_state.specs.Kept.{engine_of, Meanings}

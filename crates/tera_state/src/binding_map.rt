@@ -169,7 +169,8 @@ impl BindingMap {
             drop(last);
         }
         if !ends_before(self.items.as_slice(), self.is_ordered, part) {
-            self.items.retain(|b: &Binding| part.is_outside(layer_at(b)));
+            self.items
+                .retain(|b: &Binding| part.is_outside(layer_at(b)));
             self.is_ordered = false;
         }
         if self.items.is_empty() {

@@ -4,6 +4,7 @@
 mod binding_map;
 mod binding_maps;
 pub mod bindings;
+pub mod context_ref;
 pub mod contexts;
 pub mod found_value;
 pub mod frame;
@@ -11,27 +12,31 @@ pub mod implicits;
 pub mod items;
 pub mod laws;
 mod layer_name;
-pub mod context_ref;
 pub mod loops;
 pub mod object;
+pub mod objects;
 pub mod open_loops;
 mod part;
-pub mod writing;
 pub mod scopes;
 pub mod stack;
 pub mod state;
+pub mod writing;
 
 pub use bindings::Bindings;
+pub use context_ref::ContextRef;
 pub use contexts::Contexts;
 pub use found_value::FoundValue;
 pub use frame::{Frame, FrameKind};
 pub use implicits::Implicits;
 pub use items::ForLoopIterator;
-pub use context_ref::ContextRef;
 pub use loops::ForLoop;
 pub use object::{Filter, Function, Test};
+pub use objects::{
+    BuiltInKind, CallerObjects, ObjectCall, ObjectTable, Objects, ObjectsOver, OwnFilters, Stored,
+    StoredFilter, StoredFunction, StoredTest,
+};
 pub use open_loops::OpenLoops;
-pub use writing::write_value;
 pub use scopes::Scopes;
 pub use stack::Stack;
 pub use state::{State, StateOver};
+pub use writing::write_value;

@@ -9,7 +9,7 @@ ghost use Rattle.tera_state.specs.Scope.{loop_turns};
 ghost use Rattle.tera_state.specs.Opened.{items_of, heading, names_at, items_over, turns_left, counters_of, GoesOn};
 
 use crate::found_value::FoundValue;
-use crate::items::{ForLoopIterator, loop_items, key_at, size_of, value_at};
+use crate::items::{ForLoopIterator, key_at, loop_items, size_of, value_at};
 use std::alloc::Global;
 use tera_values::{Counter, Name, NameRef, TeraResult, Value};
 
@@ -39,7 +39,12 @@ impl ForLoop {
     }
 
     /// The same for a comprehension, which doesn't count its turns.
-    pub fn new_comprehension(alloc: Global, name: Name, key: Option<Name>, target: Value) -> LoopStart
+    pub fn new_comprehension(
+        alloc: Global,
+        name: Name,
+        key: Option<Name>,
+        target: Value,
+    ) -> LoopStart
         ensures turns { Gives turns_left result (loop_turns (heading name key false) target) }
         ensures items { IfOk result (λ opened. items_in plain target ≡ Some (items_over opened)) }
         ensures ready { text_of target ≡ None → IsOk (loop_turns (heading name key false) target)

@@ -100,7 +100,13 @@ impl OpenLoops {
             ≡ in_innermost name.now (turns_of bindings.now frame self.now) }
     {
         match &self.innermost {
-            Some(innermost) => look_in_turn(bindings, frame, self.around.len() + 1, innermost, name),
+            Some(innermost) => look_in_turn(
+                bindings,
+                frame,
+                self.around.len() + 1,
+                innermost,
+                name,
+            ),
             None => FoundValue::Unbound,
         }
     }
@@ -124,7 +130,12 @@ impl OpenLoops {
 
     /// What the turns of the loops of this frame bind. Takes no memory.
     #[inline(always)]
-    pub fn look<'a>(&'a self, bindings: &'a Bindings, frame: usize, name: &NameRef<'_>) -> FoundValue<'a>
+    pub fn look<'a>(
+        &'a self,
+        bindings: &'a Bindings,
+        frame: usize,
+        name: &NameRef<'_>,
+    ) -> FoundValue<'a>
         ensures { found_value result ≡ in_turns name.now (turns_of bindings.now frame self.now) }
     {
         match &self.innermost {

@@ -12,10 +12,10 @@ ghost use Rattle.tera_state.specs.declared.frame.FrameKind.TheVariants as stands
 ghost use Rattle.tera_state.specs.Scopes.{begun, bound_at, bound_above_at, handed_at, PassesOn, variables_at, context_of, variables_of, around_of, coming_of, coming_around, own_global, TakesTurn};
 
 use crate::bindings::Bindings;
+use crate::context_ref::ContextRef;
 use crate::contexts::Contexts;
 use crate::found_value::FoundValue;
 use crate::frame::{Frame, FrameKind};
-use crate::context_ref::ContextRef;
 use crate::loops::ForLoop;
 use crate::open_loops::OpenLoops;
 use crate::stack::Stack;
@@ -118,7 +118,12 @@ impl<'c> Scopes<'c> {
     }
 
     // What a body with so many frames below it has the name stand for.
-    fn look_in_frame<'a>(&'a self, height: usize, body: &'a Frame<'c>, name: &NameRef<'_>) -> FoundValue<'a>
+    fn look_in_frame<'a>(
+        &'a self,
+        height: usize,
+        body: &'a Frame<'c>,
+        name: &NameRef<'_>,
+    ) -> FoundValue<'a>
         requires { height ≤ length self.now.below }
         ensures { found_value result ≡ bound_at self.now height body.now name.now }
     {
@@ -181,7 +186,12 @@ impl<'c> Scopes<'c> {
     }
 
     // The same from a body with so many frames below it.
-    fn look_implicit_in_frame<'a>(&'a self, height: usize, body: &'a Frame<'c>, name: &NameRef<'_>) -> FoundValue<'a>
+    fn look_implicit_in_frame<'a>(
+        &'a self,
+        height: usize,
+        body: &'a Frame<'c>,
+        name: &NameRef<'_>,
+    ) -> FoundValue<'a>
         requires { height ≤ length self.now.below }
         ensures { found_value result ≡ bound_above_at self.now height body.now name.now }
     {

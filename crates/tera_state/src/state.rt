@@ -8,8 +8,8 @@ ghost use Rattle.tera_state.specs.FoundValue.{found_value};
 ghost use Rattle.tera_state.specs.View.{filters_left};
 
 use crate::found_value::FoundValue;
-use crate::writing::write_value;
 use crate::scopes::Scopes;
+use crate::writing::write_value;
 use std::alloc::Global;
 use tera_built_ins::{BuiltInFilter, EscapeFn, Escaping};
 use tera_values::{
@@ -150,7 +150,12 @@ impl<'a, 'c, E: EscapeFn> StateOver<'a, 'c, E> {
             (filter_in plain (escaping_in view) (view.filters name.now) value.now kwargs) }
     {
         match self.filter(name) {
-            Some(filter) => match filter.call(self.alloc, value, &kwargs.as_arguments(), self.escaping()) {
+            Some(filter) => match filter.call(
+                self.alloc,
+                value,
+                &kwargs.as_arguments(),
+                self.escaping(),
+            ) {
                 Ok(answer) => Ok(answer),
                 Err(error) => Err(error.of_callee(self.alloc, "filter", name)),
             },

@@ -186,7 +186,10 @@ fn refuse_repeats(alloc: Global, names: &[PlacedName<'_>], why: Reason) -> Resul
 }
 
 /// The tree, where no two of its blocks have one name, and no two of its components.
-pub(crate) fn with_distinct_names<'s>(alloc: Global, output: ParserOutput<'s>) -> Result<ParserOutput<'s>, Refusal>
+pub(crate) fn with_distinct_names<'s>(
+    alloc: Global,
+    output: ParserOutput<'s>,
+) -> Result<ParserOutput<'s>, Refusal>
     ensures value { Answers tree_of (spec.once (tree_of output.entry)) result }
     ensures refused { RefusesOnly (tree_doubled (tree_of output.entry)) result }
     ensures points { (size : ℕ) → Inside size (tree_of output.entry)

@@ -267,7 +267,11 @@ impl<'s> OpenStatements<'s> {
     }
 
     /// Reads other nodes from here on, which stand in these surroundings, and hands out those that were read.
-    pub fn switch_nodes(&mut self, found: Vec<Node<'s>>, surroundings: Surroundings) -> Vec<Node<'s>>
+    pub fn switch_nodes(
+        &mut self,
+        found: Vec<Node<'s>>,
+        surroundings: Surroundings,
+    ) -> Vec<Node<'s>>
         ensures found { nodes_of result.items ≡ (progress_of self.old).found }
         ensures rest { progress_of self.new
             ≡ turned (progress_of self.old) (nodes_of found.entry.items) surroundings }

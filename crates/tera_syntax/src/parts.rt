@@ -9,7 +9,7 @@ ghost use Rattle.tera_syntax_tree.specs.Prelude.{definitions_of, nodes_of, signa
 
 use crate::heads::{Surroundings, ends_component, is_component};
 use crate::open_statements::{MAX_TREE_DEPTH, OpenStatements};
-use crate::statements::{tokens_after_first, step};
+use crate::statements::{step, tokens_after_first};
 use std::alloc::Global;
 use tera_errors::Span;
 use tera_syntax_expressions::parameters::signature;

@@ -133,7 +133,12 @@ impl<'a> UnreadText<'a> {
     }
 
     // A tag belongs to a statement that is not the one which is open.
-    fn other_open_words(&self, alloc: Global, at: usize, opened: usize) -> Result<String, AllocError> {
+    fn other_open_words(
+        &self,
+        alloc: Global,
+        at: usize,
+        opened: usize,
+    ) -> Result<String, AllocError> {
         let (tag, opening, line) = (self.tag_at(at), self.opening(opened), self.line(opened));
         if tag.starts_with("end") || tag.starts_with("<") {
             format!(in alloc; "`{tag}` ends nothing: `{opening}` of line {line} is open")

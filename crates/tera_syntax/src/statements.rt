@@ -133,7 +133,11 @@ fn statement<'s>(
     }
 }
 
-fn put_words<'s>(progress: &mut OpenStatements<'s>, text: &'s str, span: Span) -> Result<(), Refusal>
+fn put_words<'s>(
+    progress: &mut OpenStatements<'s>,
+    text: &'s str,
+    span: Span,
+) -> Result<(), Refusal>
     ensures { let meant = spec.put_words max_tree_depth (progress_of progress.old) text.now span in
         Becomes meant result progress.new }
 {
@@ -162,7 +166,11 @@ fn lone_name<'s>(tag: &[Token<'s>]) -> Option<Token<'s>>
 }
 
 /// `{{ value }}`. No box is made for a name alone.
-fn print<'s>(progress: &mut OpenStatements<'s>, alloc: Global, tag: &[Token<'s>]) -> Result<(), Refusal>
+fn print<'s>(
+    progress: &mut OpenStatements<'s>,
+    alloc: Global,
+    tag: &[Token<'s>],
+) -> Result<(), Refusal>
     ensures { let s = progress_of progress.old in
         let tokens = tokens_of tag.now in
         let value = spec.whole (spec.room max_tree_depth s) (begin s.surroundings.in_loop tokens) in

@@ -8,7 +8,7 @@ ghost use Rattle.tera_syntax_tree.specs.Prelude.{node_of, quoted_of};
 
 use crate::heads::Head;
 use crate::open_statements::{OpenStatements, refusal_of_tag};
-use crate::statements::{tokens_after_first, pipe, put, whole_expression};
+use crate::statements::{pipe, put, tokens_after_first, whole_expression};
 use std::alloc::Global;
 use tera_syntax_tokens::cut::is_alone;
 use tera_syntax_tokens::literal::literal;
@@ -55,7 +55,11 @@ fn set<'s>(
 }
 
 /// A tag that begins with `filter`.
-fn section<'s>(progress: &mut OpenStatements<'s>, alloc: Global, tag: &[Token<'s>]) -> Result<(), Refusal>
+fn section<'s>(
+    progress: &mut OpenStatements<'s>,
+    alloc: Global,
+    tag: &[Token<'s>],
+) -> Result<(), Refusal>
     ensures { let s = progress_of progress.old in
         let tokens = tokens_of tag.now in
         let behind = next (begin s.surroundings.in_loop tokens) in
@@ -68,7 +72,11 @@ fn section<'s>(progress: &mut OpenStatements<'s>, alloc: Global, tag: &[Token<'s
 }
 
 /// A tag that begins with `block`. The block's name may be a reserved word.
-fn block<'s>(progress: &mut OpenStatements<'s>, alloc: Global, tag: &[Token<'s>]) -> Result<(), Refusal>
+fn block<'s>(
+    progress: &mut OpenStatements<'s>,
+    alloc: Global,
+    tag: &[Token<'s>],
+) -> Result<(), Refusal>
     ensures { let s = progress_of progress.old in
         let tokens = tokens_of tag.now in
         let behind = next (begin s.surroundings.in_loop tokens) in
@@ -114,7 +122,11 @@ pub(crate) fn quoted_name<'s>(
 }
 
 /// A tag that begins with `include`.
-fn include<'s>(progress: &mut OpenStatements<'s>, alloc: Global, tag: &[Token<'s>]) -> Result<(), Refusal>
+fn include<'s>(
+    progress: &mut OpenStatements<'s>,
+    alloc: Global,
+    tag: &[Token<'s>],
+) -> Result<(), Refusal>
     ensures { let s = progress_of progress.old in
         let tokens = tokens_of tag.now in
         let meant = spec.including (next (begin false tokens)) in

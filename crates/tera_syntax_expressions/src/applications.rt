@@ -5,9 +5,9 @@ ghost use Rattle.tera_syntax_expressions.specs.Arguments as call;
 ghost use Rattle.tera_syntax_expressions.specs.Expressions as spec;
 ghost use Rattle.tera_syntax_expressions.specs.Parts.{Follows, GoesOn, Nests};
 
-use crate::expressions::{ReadExpression, Read, Replaced, ReadRow};
-use crate::reader::Reader;
+use crate::expressions::{Read, ReadExpression, ReadRow, Replaced};
 use crate::operator_forms::Application;
+use crate::reader::Reader;
 use std::alloc::Global;
 use tera_syntax_tokens::refusal::{Reason, Refusal};
 use tera_syntax_tokens::token::Kind;
@@ -58,7 +58,12 @@ impl<'s, F: Fn(Global, &mut Tokens<'_, 's>, usize, u8) -> Read<'s>> Reader<F> {
     /// A test, from its name on.
     #[inline(always)]
     #[tactic(auto, unfolding(crate::specs::Expressions::test_by_name))]
-    fn test_by_name(&self, tokens: &mut Tokens<'_, 's>, start: usize, x: &mut ReadExpression<'s>) -> Replaced
+    fn test_by_name(
+        &self,
+        tokens: &mut Tokens<'_, 's>,
+        start: usize,
+        x: &mut ReadExpression<'s>,
+    ) -> Replaced
         requires { Nests self.now.below (F.pre self.now.expr) (F.post self.now.expr) }
         ensures { GoesOn spec.test_by_name self.now start x.old x.new tokens.old result tokens.new }
     {

@@ -7,7 +7,7 @@ ghost use Rattle.tera_syntax_expressions.specs.Expressions as spec;
 ghost use Rattle.tera_syntax_expressions.specs.Parts.{FollowsRow, Nests, TakesPart, deep_of, position_of};
 
 use crate::comma_lists::{between_commas, take_comma};
-use crate::expressions::{ReadExpression, Depth, Read, ReadRow};
+use crate::expressions::{Depth, Read, ReadExpression, ReadRow};
 use crate::levels::kinds;
 use crate::precedence;
 use crate::reader::Reader;
@@ -17,7 +17,7 @@ use tera_errors::Span;
 use tera_syntax_tokens::refusal::{Reason, Refusal};
 use tera_syntax_tokens::token::Kind;
 use tera_syntax_tokens::tokens::{Tokens, is_word};
-use tera_syntax_tree::{Argument, FunctionCall, Expression};
+use tera_syntax_tree::{Argument, Expression, FunctionCall};
 
 /// With no more tokens ahead a call has 32 arguments at most. To search so short a row takes less than to build a tree.
 const FEW_TOKENS: usize = 128;

@@ -6,11 +6,11 @@ ghost use Rattle.tera_syntax_expressions.specs.Parts.{GoesOn, Nests, deep_of};
 ghost use Rattle.tera_syntax_expressions.specs.Precedence as precedence;
 
 use crate::access::Access;
-use crate::expressions::{ReadExpression, Read, Replaced};
+use crate::expressions::{Read, ReadExpression, Replaced};
 use crate::levels::{begins, gives, goes_on};
+use crate::operator_forms::Infix::{self, Binary};
 use crate::precedence;
 use crate::reader::{Reader, read};
-use crate::operator_forms::Infix::{self, Binary};
 use std::alloc::Global;
 use tera_syntax_tokens::refusal::{Reason, Refusal};
 use tera_syntax_tokens::token::{Kind, Token};
@@ -81,7 +81,12 @@ impl<'s, F: Fn(Global, &mut Tokens<'_, 's>, usize, u8) -> Read<'s>> Reader<F> {
     /// What the next token goes on to.
     #[inline(always)]
     #[tactic(auto, unfolding(crate::specs::Expressions::operation, crate::specs::Expressions::applied, crate::specs::Expressions::suffixed))]
-    fn operation(&self, tokens: &mut Tokens<'_, 's>, start: usize, x: &mut ReadExpression<'s>) -> Replaced
+    fn operation(
+        &self,
+        tokens: &mut Tokens<'_, 's>,
+        start: usize,
+        x: &mut ReadExpression<'s>,
+    ) -> Replaced
         requires { Nests self.now.below (F.pre self.now.expr) (F.post self.now.expr) }
         ensures { GoesOn spec.operation self.now start x.old x.new tokens.old result tokens.new }
     {
@@ -112,7 +117,12 @@ impl<'s, F: Fn(Global, &mut Tokens<'_, 's>, usize, u8) -> Read<'s>> Reader<F> {
     /// answers is made ready at each sign.
     #[inline(never)]
     #[tactic(auto, unfolding(crate::specs::Expressions::suffixed))]
-    fn suffix_form(&self, tokens: &mut Tokens<'_, 's>, start: usize, x: &mut ReadExpression<'s>) -> Replaced
+    fn suffix_form(
+        &self,
+        tokens: &mut Tokens<'_, 's>,
+        start: usize,
+        x: &mut ReadExpression<'s>,
+    ) -> Replaced
         requires { Nests self.now.below (F.pre self.now.expr) (F.post self.now.expr) }
         ensures { GoesOn spec.suffix_form self.now start x.old x.new tokens.old result tokens.new }
     {

@@ -8,7 +8,7 @@ ghost use Rattle.tera_syntax_expressions.specs.Parts.{FollowsRow, TakesItem, Tak
 ghost use Rattle.tera_syntax_expressions.specs.Precedence as precedence;
 
 use crate::comma_lists::{between_commas, take_comma};
-use crate::expressions::{ReadExpression, Depth, Read, ReadRow};
+use crate::expressions::{Depth, Read, ReadExpression, ReadRow};
 use crate::precedence;
 use crate::reader::{Reader, read};
 use std::alloc::{AllocError, Global};
@@ -92,7 +92,12 @@ impl<'s, F: Fn(Global, &mut Tokens<'_, 's>, usize, u8) -> Read<'s>> Reader<F> {
     /// Items with commas between, up to a bracket, behind those that were read.
     #[inline(always)]
     #[tactic(auto, unfolding(crate::specs::Expressions::items_from))]
-    fn items(&self, tokens: &mut Tokens<'_, 's>, all: Vec<Item<'s>>, depth: usize) -> ReadRow<Item<'s>>
+    fn items(
+        &self,
+        tokens: &mut Tokens<'_, 's>,
+        all: Vec<Item<'s>>,
+        depth: usize,
+    ) -> ReadRow<Item<'s>>
         requires { Nests self.now.below (F.pre self.now.expr) (F.post self.now.expr) }
         ensures { let meant = spec.items_from self.now.limit (spec.expr self.now.below)
             (left (input tokens.old)) (items_of all.entry.items) depth in

@@ -7,7 +7,7 @@ ghost use Rattle.tera_syntax_expressions.specs.Expressions as spec;
 ghost use Rattle.tera_syntax_expressions.specs.Parts.{Follows, FollowsRow, Nests, TakesPart, deep_of};
 
 use crate::arguments::argument_name;
-use crate::expressions::{ReadExpression, Depth, Read, ReadRow, expr};
+use crate::expressions::{Depth, Read, ReadExpression, ReadRow, expr};
 use crate::precedence;
 use crate::reader::{Reader, read};
 use std::alloc::Global;
@@ -19,7 +19,11 @@ use tera_syntax_tree::{ComponentTag, EntryExpression, Expression, LiteralKey, Qu
 
 /// Attributes up to where none begins, no deeper than `limit`, and the greatest depth.
 #[tactic(auto, unfolding(crate::specs::Expressions::attributes))]
-pub fn attributes<'s>(alloc: Global, tokens: &mut Tokens<'_, 's>, limit: usize) -> ReadRow<EntryExpression<'s>>
+pub fn attributes<'s>(
+    alloc: Global,
+    tokens: &mut Tokens<'_, 's>,
+    limit: usize,
+) -> ReadRow<EntryExpression<'s>>
     ensures { let meant = spec.attributes limit (input tokens.old) in
         Takes (λ p. (entries_of p.0.items, p.1)) meant result tokens.new }
 {
@@ -105,7 +109,11 @@ impl<'s, F: Fn(Global, &mut Tokens<'_, 's>, usize, u8) -> Read<'s>> Reader<F> {
     /// An attribute, behind those that were read, and its depth.
     #[inline(always)]
     #[tactic(auto, unfolding(crate::specs::Expressions::any_attribute))]
-    fn any_attribute(&self, tokens: &mut Tokens<'_, 's>, found: &mut Vec<EntryExpression<'s>>) -> Depth
+    fn any_attribute(
+        &self,
+        tokens: &mut Tokens<'_, 's>,
+        found: &mut Vec<EntryExpression<'s>>,
+    ) -> Depth
         requires { Nests self.now.below (F.pre self.now.expr) (F.post self.now.expr) }
         ensures { let meant = spec.any_attribute self.now.limit (spec.expr self.now.below) in
             TakesPart entries_of meant found.old found.new (input tokens.old) result tokens.new }
@@ -121,7 +129,11 @@ impl<'s, F: Fn(Global, &mut Tokens<'_, 's>, usize, u8) -> Read<'s>> Reader<F> {
     /// `name="text"` or `name={x}`
     #[inline(always)]
     #[tactic(auto, unfolding(crate::specs::Expressions::named_attribute))]
-    fn named_attribute(&self, tokens: &mut Tokens<'_, 's>, found: &mut Vec<EntryExpression<'s>>) -> Depth
+    fn named_attribute(
+        &self,
+        tokens: &mut Tokens<'_, 's>,
+        found: &mut Vec<EntryExpression<'s>>,
+    ) -> Depth
         requires { Nests self.now.below (F.pre self.now.expr) (F.post self.now.expr) }
         ensures { let meant = spec.named_attribute self.now.limit (spec.expr self.now.below) in
             TakesPart entries_of meant found.old found.new (input tokens.old) result tokens.new }
@@ -144,7 +156,11 @@ impl<'s, F: Fn(Global, &mut Tokens<'_, 's>, usize, u8) -> Read<'s>> Reader<F> {
     /// `{...x}`, from behind its brace.
     #[inline(always)]
     #[tactic(auto, unfolding(crate::specs::Expressions::spread_attribute))]
-    fn spread_attribute(&self, tokens: &mut Tokens<'_, 's>, found: &mut Vec<EntryExpression<'s>>) -> Depth
+    fn spread_attribute(
+        &self,
+        tokens: &mut Tokens<'_, 's>,
+        found: &mut Vec<EntryExpression<'s>>,
+    ) -> Depth
         requires { Nests self.now.below (F.pre self.now.expr) (F.post self.now.expr) }
         ensures { let meant = spec.spread_attribute self.now.limit (spec.expr self.now.below) in
             TakesPart entries_of meant found.old found.new (input tokens.old) result tokens.new }

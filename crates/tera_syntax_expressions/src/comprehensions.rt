@@ -5,11 +5,11 @@ ghost use Rattle.tera_syntax_tokens.specs.Prelude.{Takes, input};
 ghost use Rattle.tera_syntax_expressions.specs.Expressions as spec;
 ghost use Rattle.tera_syntax_expressions.specs.Parts.{Follows, GoesOn, Nests, deep_of, names_of, part_of};
 
-use crate::expressions::{ReadExpression, Read, Replaced};
+use crate::expressions::{Read, ReadExpression, Replaced};
 use crate::headings::{HeadingNames, names};
-use crate::shared_forms::{no_part, some_part};
 use crate::precedence;
 use crate::reader::{OptionalPart, Reader, read, take_operand};
+use crate::shared_forms::{no_part, some_part};
 use std::alloc::Global;
 use tera_syntax_tokens::refusal::Refusal;
 use tera_syntax_tokens::token::Kind;

@@ -4,7 +4,7 @@ ghost use Rattle.tera_syntax_tokens.specs.Prelude.{Takes, input};
 ghost use Rattle.tera_syntax_expressions.specs.Expressions as spec;
 ghost use Rattle.tera_syntax_expressions.specs.Parts.{FollowsRow, Nests, TakesPart};
 
-use crate::expressions::{ReadExpression, Depth, Read, ReadRow, expr};
+use crate::expressions::{Depth, Read, ReadExpression, ReadRow, expr};
 use crate::reader::{Reader, reader_within};
 use std::alloc::Global;
 use tera_syntax_tokens::refusal::{Reason, Refusal};

@@ -16,15 +16,15 @@ pub mod expressions;
 pub mod filters;
 /// What loops call their items.
 pub mod headings;
-mod operands;
 mod levels;
 mod literals;
-mod shared_forms;
 mod many_arguments;
+mod operands;
 mod operators;
+mod shared_forms;
 /// Signatures of components.
 pub mod parameters;
 /// Levels of precedence.
+mod operator_forms;
 pub mod precedence;
 mod reader;
-mod operator_forms;

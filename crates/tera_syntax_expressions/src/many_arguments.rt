@@ -8,7 +8,7 @@ ghost use Rattle.tera_syntax_expressions.specs.Parts.{FollowsRow, Nests, by_name
 
 use crate::arguments::argument_name;
 use crate::comma_lists::{between_commas, take_comma};
-use crate::expressions::{ReadExpression, Depth, Read, ReadRow};
+use crate::expressions::{Depth, Read, ReadExpression, ReadRow};
 use crate::precedence;
 use crate::reader::Reader;
 use std::alloc::{AllocError, Global};

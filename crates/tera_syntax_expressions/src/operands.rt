@@ -7,10 +7,10 @@ ghost use Rattle.std.specs.Prelude.{◌≡◌, option_map};
 ghost use Rattle.tera_syntax_expressions.specs.Parts.{Follows, Nests, deep_of};
 
 use crate::arguments::is_call;
-use crate::expressions::{ReadExpression, Read};
+use crate::expressions::{Read, ReadExpression};
+use crate::operator_forms::Prefix;
 use crate::precedence;
 use crate::reader::Reader;
-use crate::operator_forms::Prefix;
 use std::alloc::Global;
 use tera_syntax_tokens::literal::{integer, literal};
 use tera_syntax_tokens::refusal::{Reason, Refusal};

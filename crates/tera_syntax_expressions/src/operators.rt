@@ -5,10 +5,10 @@ ghost use Rattle.tera_syntax_tokens.specs.Prelude.{span, Takes, input};
 ghost use Rattle.tera_syntax_expressions.specs.Expressions as spec;
 ghost use Rattle.tera_syntax_expressions.specs.Parts.{GoesOn, Nests, deep_of, infix_of, prefix_of};
 
-use crate::expressions::{ReadExpression, Read, Replaced};
+use crate::expressions::{Read, ReadExpression, Replaced};
+use crate::operator_forms::{Infix, Prefix, make_infix, make_prefix};
 use crate::precedence;
 use crate::reader::{Reader, read, take_operand};
-use crate::operator_forms::{Infix, Prefix, make_infix, make_prefix};
 use std::alloc::Global;
 use tera_syntax_tokens::refusal::{Reason, Refusal};
 use tera_syntax_tokens::token::Kind;

@@ -5,7 +5,7 @@ ghost use Rattle.tera_syntax_expressions.specs.Expressions as spec;
 ghost use Rattle.std.specs.Prelude.{◌≡◌};
 ghost use Rattle.tera_syntax_expressions.specs.Parts.{IsEmptied, Nests, deep_of};
 
-use crate::expressions::{ReadExpression, Read, Replaced};
+use crate::expressions::{Read, ReadExpression, Replaced};
 use std::alloc::Global;
 use std::mem::{forget, replace};
 use tera_errors::Span;

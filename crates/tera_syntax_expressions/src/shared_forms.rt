@@ -6,9 +6,9 @@ ghost use Rattle.tera_syntax_expressions.specs.Applications.{application_of};
 ghost use Rattle.tera_syntax_expressions.specs.Expressions as spec;
 ghost use Rattle.tera_syntax_expressions.specs.Parts.{Nests, deep_of, part_of};
 
-use crate::expressions::{ReadExpression, Read, Replaced};
-use crate::reader::{OptionalPart, Reader, take_operand};
+use crate::expressions::{Read, ReadExpression, Replaced};
 use crate::operator_forms::{Application, make_application};
+use crate::reader::{OptionalPart, Reader, take_operand};
 use std::alloc::{AllocError, Global};
 use tera_syntax_tokens::refusal::Refusal;
 use tera_syntax_tokens::tokens::Tokens;
@@ -96,7 +96,10 @@ pub(crate) fn no_part<'s>() -> OptionalPart<'s>
 
 /// A part that is.
 #[inline(always)]
-pub(crate) fn some_part<'s>(alloc: Global, x: ReadExpression<'s>) -> Result<OptionalPart<'s>, AllocError>
+pub(crate) fn some_part<'s>(
+    alloc: Global,
+    x: ReadExpression<'s>,
+) -> Result<OptionalPart<'s>, AllocError>
     ensures { IfOk result (λ p. part_of p
         ≡ (Present (expr_of x.entry.expression), x.entry.depth)) }
 {

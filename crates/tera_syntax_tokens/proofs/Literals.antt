@@ -7,10 +7,9 @@ use Rattle.std.specs.Str.{IsCharBoundary}
 use Rattle.tera_syntax_tokens.proofs.Positions.{by_order}
 use Rattle.tera_errors.specs.Site.{Text}
 use Rattle.tera_syntax_tokens.specs.Bytes.{leading}
-use Rattle.tera_syntax_tokens.specs.Token.{is_quote}
+use Rattle.tera_syntax_tokens.specs.Token.{is_quote, token_of, tokens_of}
 use Rattle.tera_syntax_tokens.specs.Literal.{number_from, integer, escaped, escape_of, is_plain, unescaped}
 use Rattle.tera_syntax_tokens.specs.declared.token.Token as declared
-use Rattle.tera_syntax_tokens.specs.Token.{token_of, tokens_of}
 use Rattle.tera_syntax_tokens.specs.Input.{start_of}
 
 grows : (n : ℕ) (bs : Text) → n ≤ number_from n bs

@@ -14,10 +14,10 @@ ghost use Rattle.tera_syntax_tokens.specs.Token.{tokens_of};
 ghost use Rattle.tera_syntax_tokens.specs.declared.refusal.Refusal.TheVariants.{OutOfMemory};
 ghost use Rattle.tera_syntax_tokens.specs.declared.token.Token.{Token};
 
-use crate::bytes::{bytes_from, bytes_to, begins, position as position_of, position_of_byte};
-use crate::tag_tokens::{cut_inside, is_hyphen};
+use crate::bytes::{begins, bytes_from, bytes_to, position as position_of, position_of_byte};
 use crate::raw::raw;
 use crate::refusal::{Reason, Refusal};
+use crate::tag_tokens::{cut_inside, is_hyphen};
 use crate::token::Token;
 use tera_errors::Span;
 use tera_syntax_tree::Delimiters;

@@ -3,9 +3,9 @@
 
 pub(crate) mod bytes;
 pub mod cut;
-pub(crate) mod tag_tokens;
 pub mod literal;
 pub(crate) mod raw;
 pub mod refusal;
+pub(crate) mod tag_tokens;
 pub mod token;
 pub mod tokens;

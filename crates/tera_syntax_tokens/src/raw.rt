@@ -12,10 +12,12 @@ ghost use Rattle.tera_syntax_tokens.specs.Token as token;
 ghost use Rattle.tera_syntax_tokens.specs.declared.token.Token.{Token};
 ghost use Rattle.tera_syntax_tree.specs.Prelude.{accepted, delimiters_of};
 
-use crate::bytes::{bytes_from, begins};
-use crate::cut::{FoundPiece, Tag, next_opening, opening_at, start_size, trimmed_words, trims_before};
-use crate::tag_tokens::{Ending, tag_ending};
+use crate::bytes::{begins, bytes_from};
+use crate::cut::{
+    FoundPiece, Tag, next_opening, opening_at, start_size, trimmed_words, trims_before,
+};
 use crate::refusal::{Reason, Refusal};
+use crate::tag_tokens::{Ending, tag_ending};
 use crate::token::{byte_at, is_blank, is_name_byte};
 use tera_errors::Span;
 use tera_syntax_tree::Delimiters;

@@ -6,7 +6,7 @@ ghost use Rattle.tera_syntax_tokens.specs.Found.{inside_of};
 ghost use Rattle.tera_syntax_tokens.specs.Inside as spec;
 ghost use Rattle.tera_syntax_tokens.specs.Points.{PointsInto};
 
-use crate::bytes::{bytes_from, begins};
+use crate::bytes::{begins, bytes_from};
 use crate::refusal::{Reason, Refusal};
 use crate::token::{Kind, Token, is_blank, next_token};
 use tera_errors::Span;

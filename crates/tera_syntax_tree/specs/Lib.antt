@@ -9,4 +9,6 @@ pub mod Calls
 pub mod Includes
 pub mod Depth
 pub mod Inside
+pub mod Free
+pub mod Sets
 pub mod Prelude

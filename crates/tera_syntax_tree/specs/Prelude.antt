@@ -13,3 +13,5 @@ pub use Rattle.tera_syntax_tree.specs.Blocks.{top_blocks}
 pub use Rattle.tera_syntax_tree.specs.Definitions.{component_names, has_fit_parameters}
 pub use Rattle.tera_syntax_tree.specs.Includes.{definitions_include, includes, node_includes, tree_includes}
 pub use Rattle.tera_syntax_tree.specs.Inside.{DefinitionsInside, Inside, NodeInside, NodesInside, Within}
+pub use Rattle.tera_syntax_tree.specs.Free.{only, ◌∪◌}
+pub use Rattle.tera_syntax_tree.specs.Sets.{names_in}

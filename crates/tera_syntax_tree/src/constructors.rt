@@ -6,8 +6,8 @@ ghost use Rattle.tera_syntax_tree.specs.View.{applied_of, called_of, tag_of, exp
 
 use crate::component::{Literal, LiteralEntry};
 use crate::expression::{
-    Applied, Argument, BinaryOperator, FunctionCall, Choice, Collected, ComponentTag, EntryExpression, Expression,
-    Heading, Indexed, Item, Operands, Sliced,
+    Applied, Argument, BinaryOperator, Choice, Collected, ComponentTag, EntryExpression,
+    Expression, FunctionCall, Heading, Indexed, Item, Operands, Sliced,
 };
 use crate::node::{Block, Captured, Node, SectionFilter};
 use std::alloc::{AllocError, Global};

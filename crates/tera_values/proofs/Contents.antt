@@ -9,8 +9,8 @@ use Rattle.std.specs.Cmp.Lexicographic.{bytes_decides}
 use Rattle.std.proofs.lemmas.Map.Keys.{IsDistinct-head, IsDistinct-tail}
 use Rattle.std.proofs.lemmas.Map.Lookups.{exact_bytes}
 use Rattle.tera_errors.specs.Site.{Name}
-use Rattle.tera_values_data.specs.Val.{KeyVal, ktext}
-use Rattle.tera_values_data.specs.Access.{key_eq, insert_pair}
+use Rattle.tera_value_types.specs.Val.{KeyVal, ktext}
+use Rattle.tera_value_types.specs.Access.{key_eq, insert_pair}
 use Rattle.tera_values.specs.Named.{Named, name_cmp, at_name, put, put_all, text_keys, IsAscending}
 use Rattle.tera_values.specs.Names.{by_name}
 use Rattle.tera_values.proofs.Named.{three, flip_less, flip_greater, before, after, put_swap, found}

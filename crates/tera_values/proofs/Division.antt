@@ -4,7 +4,7 @@ use Rattle.std.specs.Ordering.{int_eq}
 use Rattle.std.specs.Int.{int_div_euclid, int_rem_euclid}
 use borrow.Author.Differences.{up, down, same_in, below_in, at_most_in, sum_is_lem, product_is}
 use Rattle.tera_errors.specs.Fault.{Fault, message}
-use Rattle.tera_values_data.specs.Val.{Val, int}
+use Rattle.tera_value_types.specs.Val.{Val, int}
 use Rattle.tera_values.specs.Number.{in_range, floor_div, rem}
 use Rattle.tera_values.specs.Division.{IsDivision}
 

@@ -6,7 +6,7 @@ use Rattle.std.proofs.lemmas.Int.{ints}
 use Rattle.std.proofs.Math.Nat.{pow-le-pow_left}
 use Rattle.std.proofs.Math.Pow.{pow_mono}
 use Rattle.tera_errors.specs.Fault.{message}
-use Rattle.tera_values_data.specs.Val.{int}
+use Rattle.tera_value_types.specs.Val.{int}
 use Rattle.tera_values.specs.Number.{within, power}
 
 not_below : (a b : ℕ) → b ≤ a → nat_lt a b ≡ false

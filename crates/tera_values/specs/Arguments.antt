@@ -1,8 +1,8 @@
 -- What arguments are read as.
 use Rattle.std.specs.Prelude.{ℕ, pos, Bool, false, cond, if◌then◌else◌, nat_lt, Option, Some, None, is_some, Result, Ok, Err}
 use Rattle.tera_errors.specs.Fault.{Fault, invalid_argument, message, missing_argument}
-use Rattle.tera_values_data.specs.Val.{Val, bool, int, text, array, map}
-use Rattle.tera_values_data.specs.Access.{is_undefined, text_of}
+use Rattle.tera_value_types.specs.Val.{Val, bool, int, text, array, map}
+use Rattle.tera_value_types.specs.Access.{is_undefined, text_of}
 
 abbrev pub Reading : Type 0
 Reading = Val → Result Val Fault

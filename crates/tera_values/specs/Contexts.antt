@@ -1,7 +1,7 @@
 -- What holds of values by name.
 use Rattle.std.specs.Prelude.{◌≡◌, ◌≢◌, Some}
 use Rattle.tera_errors.specs.Site.{Name}
-use Rattle.tera_values_data.specs.Val.{Val}
+use Rattle.tera_value_types.specs.Val.{Val}
 use Rattle.tera_values.specs.Named.{Named, at_name, put, IsAscending}
 
 -- a name finds what was put at it last

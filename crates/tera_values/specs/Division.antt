@@ -1,7 +1,7 @@
 -- What division with a remainder is.
 use Rattle.std.specs.Prelude.{◌≡◌, ◌≢◌, ℤ, pos, ◌+ℤ◌, ◌*ℤ◌, ◌≤ℤ◌, ◌<ℤ◌, unsigned_abs, Ok}
 use Rattle.std.specs.Int.{int_div_euclid, int_rem_euclid}
-use Rattle.tera_values_data.specs.Val.{int}
+use Rattle.tera_value_types.specs.Val.{int}
 use Rattle.tera_values.specs.Number.{floor_div, rem}
 
 -- b goes q times into a, and r is left: never negative, and nearer to 0 than b

@@ -8,7 +8,7 @@ use Rattle.std.specs.List.Sorted.{IsStrictlySortedBy}
 use Rattle.std.specs.Coded.{Coded, coded×, coded_ℕ, coded_list}
 use Rattle.std.specs.Str.{bytes_eq}
 use Rattle.tera_errors.specs.Site.{Name}
-use Rattle.tera_values_data.specs.Val.{KeyVal, ktext}
+use Rattle.tera_value_types.specs.Val.{KeyVal, ktext}
 
 abbrev pub Named : Type 0 → Type 0
 Named A = List (Name × A)

@@ -3,7 +3,7 @@ use Rattle.std.specs.Prelude.{ℤ, pos, negsuc, ◌+ℤ◌, ◌-ℤ◌, ◌*ℤ�
 use Rattle.std.specs.Ordering.{int_eq}
 use Rattle.std.specs.Int.{int_div_euclid, int_rem_euclid, int_pow}
 use Rattle.tera_errors.specs.Fault.{Fault, message}
-use Rattle.tera_values_data.specs.Val.{Val, int}
+use Rattle.tera_value_types.specs.Val.{Val, int}
 
 abbrev pub in_range : ℤ → Bool
 in_range (pos n) = nat_lt n (2 ^ 127)

@@ -1,13 +1,13 @@
 // What an argument is read as.
 ghost use Rattle.std.specs.Prelude.{◌≡◌, ◌^◌, ◌+◌, ◌≤◌, pos, false, string_bytes, Some, Result, Ok, IfOk, IsErr};
 ghost use Rattle.tera_errors.specs.Prelude.{Fault, Gives, MemorySuffices, invalid_argument};
-ghost use Rattle.tera_values_data.specs.Prelude.{Val, bool, int, text, array, map, vals, entries, IsScalar};
+ghost use Rattle.tera_value_types.specs.Prelude.{Val, bool, int, text, array, map, vals, entries, IsScalar};
 ghost use Rattle.tera_values.specs.Arguments.{as_bool, as_int, as_natural, as_text, as_array, as_map};
 
 use crate::refusals::not_of_type;
 use std::alloc::Global;
 use tera_errors::{Error, TeraResult};
-use tera_values_data::{Map, Shape, Value, copy_items};
+use tera_value_types::{Map, Shape, Value, copy_items};
 
 /// A type that a value can be read as.
 pub trait ArgFromValue: Drop {

@@ -12,7 +12,7 @@ use std::cmp::Ordering;
 use std::marker::Model;
 use std::slice;
 use tera_errors::{Error, Guess, TeraResult};
-use tera_values_data::Value;
+use tera_value_types::Value;
 
 /// Up to so many arguments are looked at one after the other.
 const FEW: usize = 8;
@@ -25,8 +25,8 @@ pub struct Arguments<'a> {
 }
 
 impl<'a> Model for Arguments<'a> {
-    ghost use Rattle.tera_values_data.specs.Val.{Val};
-    ghost use Rattle.tera_values_data.specs.Coding.{val_coding};
+    ghost use Rattle.tera_value_types.specs.Val.{Val};
+    ghost use Rattle.tera_value_types.specs.Coding.{val_coding};
     ghost use Rattle.tera_values.specs.Named.{Named, named_code, IsAscending};
 
     ghost Value = { Named Val };

@@ -1,7 +1,7 @@
 // What a rendering is given: values by name.
 ghost use Rattle.std.specs.Prelude.{◌≡◌, [], ◌∷◌, Ok, IfErr, OnOk, OnErr, map, option_copied, string_bytes};
 ghost use Rattle.tera_errors.specs.Prelude.{Gives, Lacks};
-ghost use Rattle.tera_values_data.specs.Prelude.{entries, map as map_of};
+ghost use Rattle.tera_value_types.specs.Prelude.{entries, map as map_of};
 ghost use Rattle.tera_values.specs.Named.{at_name, put, put_all, text_keys, with_names, without_names, IsAscending};
 
 use crate::name::{Name, NameRef};
@@ -10,7 +10,7 @@ use std::alloc::Global;
 use std::collections::BTreeMap;
 use std::marker::Model;
 use tera_errors::TeraResult;
-use tera_values_data::{Key, Map, Value};
+use tera_value_types::{Key, Map, Value};
 
 /// Values by name. Each is kept so that a copy of it, or of any part of it, is a count.
 pub struct Context {
@@ -27,8 +27,8 @@ impl Drop for Context {
 }
 
 impl Model for Context {
-    ghost use Rattle.tera_values_data.specs.Val.{Val};
-    ghost use Rattle.tera_values_data.specs.Coding.{val_coding};
+    ghost use Rattle.tera_value_types.specs.Val.{Val};
+    ghost use Rattle.tera_value_types.specs.Coding.{val_coding};
     ghost use Rattle.tera_values.specs.Named.{Named, named_code};
     ghost use Rattle.tera_values.specs.Names.{by_name};
 
@@ -61,7 +61,10 @@ impl Context {
         ensures err { OnErr result (self.new ≡ self.old) }
         ensures lacks { IfErr result Lacks }
     {
-        self.put(Name::new(self.alloc(), name)?, value.into_shared(self.alloc())?)
+        self.put(
+            Name::new(self.alloc(), name)?,
+            value.into_shared(self.alloc())?,
+        )
     }
 
     // The same by a name and a value that are shared already: both are kept as they lie.

@@ -12,7 +12,7 @@ use std::alloc::Global;
 use std::collections::BTreeMap;
 use std::marker::Model;
 use tera_errors::{Error, TeraResult};
-use tera_values_data::Value;
+use tera_value_types::Value;
 
 /// Arguments by name. Those that nothing asks for are ignored. They stand in byte order of their names, since a call has
 /// few and gives them in that order: each goes to the end, and none is hashed.
@@ -22,8 +22,8 @@ pub struct Kwargs {
 }
 
 impl Model for Kwargs {
-    ghost use Rattle.tera_values_data.specs.Val.{Val};
-    ghost use Rattle.tera_values_data.specs.Coding.{val_coding};
+    ghost use Rattle.tera_value_types.specs.Val.{Val};
+    ghost use Rattle.tera_value_types.specs.Coding.{val_coding};
     ghost use Rattle.tera_values.specs.Named.{Named, named_code, IsAscending};
 
     ghost Value = { Named Val };
@@ -75,7 +75,10 @@ impl Kwargs {
         ensures err { OnErr result (self.new ≡ self.old) }
         ensures lacks { IfErr result Lacks }
     {
-        self.put(Name::new(self.alloc(), name)?, value.into_shared(self.alloc())?)
+        self.put(
+            Name::new(self.alloc(), name)?,
+            value.into_shared(self.alloc())?,
+        )
     }
 
     /// The same, and both are kept as they lie: neither is copied.

@@ -20,4 +20,4 @@ pub use kwargs::Kwargs;
 pub use name::{Name, NameRef};
 pub use string_input::{StringInput, WritesValues};
 pub use tera_errors::{Error, ErrorKind, ReportError, Span, TeraResult};
-pub use tera_values_data::{Key, Map, Shape, Value, ValueKind, escape_html, escape_xml};
+pub use tera_value_types::{Key, Map, Shape, Value, ValueKind, escape_html, escape_xml};

@@ -1,12 +1,12 @@
 // Arithmetic. What is not an integer is refused, and so is what no `i128` holds: a `Message` each time.
 ghost use Rattle.std.specs.Prelude.{◌≡◌, ℤ, pos, ◌≤ℤ◌, Option, Result, IsOk};
 ghost use Rattle.tera_errors.specs.Prelude.{Gives, Fault, Tells, message};
-ghost use Rattle.tera_values_data.specs.Prelude.{Val};
+ghost use Rattle.tera_value_types.specs.Prelude.{Val};
 ghost use Rattle.tera_values.specs.Number.{told, integers, on_integers, quotient, remainder, exact_quotient, power, add, sub, mul, div, floor_div, rem, pow, negate};
 
 use std::alloc::Global;
 use tera_errors::{Error, TeraResult};
-use tera_values_data::{Shape, Value};
+use tera_value_types::{Shape, Value};
 
 /// The two integers, or none where there are not two.
 #[inline(always)]

@@ -4,7 +4,7 @@ ghost use Rattle.tera_errors.specs.Prelude.{invalid_argument};
 
 use std::alloc::Global;
 use tera_errors::{Error, ErrorKind};
-use tera_values_data::Value;
+use tera_value_types::Value;
 
 /// The value that is worked on, or the argument of a name, is of a wrong type: a value that is `wanted`, as `a string`, is none.
 #[inline(never)]

@@ -1,15 +1,15 @@
 // A text with its mark, as an argument.
 ghost use Rattle.std.specs.Prelude.{◌≡◌, Ok, Some, IsTrue, string_bytes};
 ghost use Rattle.tera_errors.specs.Prelude.{Gives, Text};
-ghost use Rattle.tera_values_data.specs.Prelude.{Val, text};
-ghost use Rattle.tera_values_data.specs.Access.{is_safe, text_of};
+ghost use Rattle.tera_value_types.specs.Prelude.{Val, text};
+ghost use Rattle.tera_value_types.specs.Access.{is_safe, text_of};
 ghost use Rattle.tera_values.specs.Arguments.{as_marked_text, is_text, unless_undefined};
 
 use crate::argument::ArgFromValue;
 use std::alloc::Global;
 use std::marker::Model;
 use tera_errors::{Error, TeraResult};
-use tera_values_data::{Shape, Value};
+use tera_value_types::{Shape, Value};
 
 /// What values are written at: the state of a rendering.
 pub trait WritesValues {
@@ -29,8 +29,8 @@ pub struct StringInput {
 
 impl Model for StringInput {
     ghost use Rattle.std.specs.Prelude.{IsTrue};
-    ghost use Rattle.tera_values_data.specs.Val.{Val};
-    ghost use Rattle.tera_values_data.specs.Coding.{val_coding};
+    ghost use Rattle.tera_value_types.specs.Val.{Val};
+    ghost use Rattle.tera_value_types.specs.Coding.{val_coding};
     ghost use Rattle.tera_values.specs.Arguments.{is_text};
 
     ghost Value = { Val };

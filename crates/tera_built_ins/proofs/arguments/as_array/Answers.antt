@@ -1,6 +1,6 @@
 use Rattle.std.proofs.Common.{ap, sym, ◌∙◌, Ok}
 use Rattle.tera_built_ins.specs.Arguments.{as_array}
-use Rattle.tera_values_data.proofs.Counts.{list_vals}
+use Rattle.tera_value_types.proofs.Counts.{list_vals}
 use Rattle.tera_built_ins.proofs.arguments.as_array.Goals as goal
 
 -- src/arguments.rt

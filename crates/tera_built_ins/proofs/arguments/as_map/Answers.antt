@@ -1,6 +1,6 @@
 use Rattle.std.proofs.Common.{ap, sym, ◌∙◌, Ok}
 use Rattle.tera_built_ins.specs.Arguments.{as_map}
-use Rattle.tera_values_data.proofs.Pairs.{pairs_entries}
+use Rattle.tera_value_types.proofs.Pairs.{pairs_entries}
 use Rattle.tera_built_ins.proofs.arguments.as_map.Goals as goal
 
 -- src/arguments.rt

@@ -1,7 +1,6 @@
 use Rattle.std.proofs.Common.{◌≡◌, ◌++◌, drop}
-use Rattle.tera_syntax_tree.specs.View.{entries_of}
+use Rattle.tera_syntax_tree.specs.View.{entries_of, keys_of}
 use Rattle.tera_code.specs.Code.{keys_in}
-use Rattle.tera_syntax_tree.specs.View.{keys_of}
 use Rattle.tera_code.proofs.single_instructions.keys.Given as goal
 
 abbrev pub invariant-loop-entry : goal.invariant-loop-entry

@@ -7,8 +7,8 @@ use Rattle.tera_values.specs.Named.{Named}
 use Rattle.tera_built_ins.specs.Filters.{filter_of}
 use Rattle.tera_operators.specs.Calls.{by_name, placed_call}
 use Rattle.tera_operators.specs.Operand.{at_span, then}
-use Rattle.tera_objects.specs.BuiltIn.{escaping_by}
-use Rattle.tera_objects.specs.Calling.{filtered_by, seen_in}
+use Rattle.tera_state.specs.BuiltIn.{escaping_by}
+use Rattle.tera_state.specs.Calling.{filtered_by, seen_in}
 use Rattle.tera_machine.proofs.BuiltIn.{filtered_is}
 use Rattle.tera_machine.proofs.built_in.filter_result.Goals as goal
 

@@ -1,7 +1,6 @@
 use Rattle.std.proofs.Common.{◌≡◌, ◌++◌, string_bytes, map, Some, sym, ap, ◌∙◌, arith}
 use Rattle.std.specs.Option.{option_or}
-use Rattle.tera_meaning.specs.Resolve.{entry_at}
-use Rattle.tera_meaning.specs.Resolve.{first_there}
+use Rattle.tera_meaning.specs.Resolve.{entry_at, first_there}
 use Rattle.tera_registry.specs.Kept.{entries_of}
 use Rattle.tera_registry.proofs.Element.{element}
 use Rattle.tera_registry.proofs.Resolved.{first-there-none, first-there-at, none-more, prefix-at, length-texts}

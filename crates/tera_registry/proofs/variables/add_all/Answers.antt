@@ -1,8 +1,8 @@
 use Rattle.std.proofs.Common.{sym, ap, ◌∙◌}
 use Rattle.tera_meaning.specs.Variables.{if_given}
-use Rattle.tera_variables.specs.Free.{only, ◌∪◌}
-use Rattle.tera_variables.specs.Sets.{names_in}
-use Rattle.tera_variables.proofs.Unions.{those}
+use Rattle.tera_syntax_tree.specs.Free.{only, ◌∪◌}
+use Rattle.tera_syntax_tree.specs.Sets.{names_in}
+use Rattle.tera_syntax_tree.proofs.Unions.{those}
 use Rattle.tera_registry.proofs.Wanted.{given-none, one-given}
 use Rattle.tera_registry.proofs.variables.add_all.Goals as goal
 

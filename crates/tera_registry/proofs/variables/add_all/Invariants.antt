@@ -1,8 +1,8 @@
 use Rattle.std.proofs.Common.{◌≡◌}
 use Rattle.tera_meaning.specs.Variables.{if_given}
-use Rattle.tera_variables.specs.Free.{◌∪◌}
-use Rattle.tera_variables.specs.Sets.{names_in}
-use Rattle.tera_variables.proofs.Unions.{those}
+use Rattle.tera_syntax_tree.specs.Free.{◌∪◌}
+use Rattle.tera_syntax_tree.specs.Sets.{names_in}
+use Rattle.tera_syntax_tree.proofs.Unions.{those}
 use Rattle.tera_registry.proofs.variables.add_all.Given as goal
 
 abbrev pub invariant-loop-name : goal.invariant-loop-name

@@ -1,6 +1,6 @@
 use Rattle.std.proofs.Common.{◌∙◌, ap, sym}
-use Rattle.tera_variables.specs.Free.{◌∪◌}
-use Rattle.tera_variables.specs.Sets.{names_in}
+use Rattle.tera_syntax_tree.specs.Free.{◌∪◌}
+use Rattle.tera_syntax_tree.specs.Sets.{names_in}
 use Rattle.tera_registry.proofs.Bodies.{on_ok_by}
 use Rattle.tera_registry.proofs.Wanted.{is-given, is-own}
 use Rattle.tera_registry.proofs.variables.add_given.Goals as goal

@@ -3,9 +3,9 @@ use Rattle.std.specs.List.{cons_option}
 use Rattle.std.proofs.lemmas.List.{drop_all}
 use Rattle.std.proofs.lemmas.Option.{get_or_from_slice_get}
 use Rattle.tera_meaning.specs.Variables.{in_one_of, given_in}
-use Rattle.tera_variables.specs.Free.{◌∪◌}
-use Rattle.tera_variables.specs.Sets.{names_in}
-use Rattle.tera_variables.proofs.Unions.{union-pass, empty}
+use Rattle.tera_syntax_tree.specs.Free.{◌∪◌}
+use Rattle.tera_syntax_tree.specs.Sets.{names_in}
+use Rattle.tera_syntax_tree.proofs.Unions.{union-pass, empty}
 use Rattle.tera_registry.specs.Edges.{all_at}
 use Rattle.tera_registry.specs.Kept.{entry_of, entries_of, seen}
 use Rattle.tera_registry.proofs.Element.{element}

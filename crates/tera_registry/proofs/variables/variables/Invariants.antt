@@ -1,7 +1,7 @@
 use Rattle.std.proofs.Common.{◌≡◌, drop}
 use Rattle.tera_meaning.specs.Variables.{in_one_of, given_in}
-use Rattle.tera_variables.specs.Free.{◌∪◌}
-use Rattle.tera_variables.specs.Sets.{names_in}
+use Rattle.tera_syntax_tree.specs.Free.{◌∪◌}
+use Rattle.tera_syntax_tree.specs.Sets.{names_in}
 use Rattle.tera_registry.specs.Edges.{all_at}
 use Rattle.tera_registry.specs.Kept.{entries_of}
 use Rattle.tera_registry.proofs.variables.variables.Given as goal

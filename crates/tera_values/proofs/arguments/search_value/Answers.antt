@@ -1,5 +1,5 @@
 use Rattle.std.proofs.Common.{arith, ltb-false, ◌≡◌, Ok, Err, Some, sym, ap, ◌∙◌}
-use Rattle.tera_values_data.specs.Val.{Val}
+use Rattle.tera_value_types.specs.Val.{Val}
 use Rattle.tera_errors.specs.Site.{Name}
 use Rattle.tera_values.specs.Named.{position}
 use Rattle.tera_values.proofs.Positions.{stands_within, at_position, nothing_stands}

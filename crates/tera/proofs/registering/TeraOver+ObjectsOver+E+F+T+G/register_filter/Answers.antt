@@ -1,4 +1,4 @@
-use Rattle.tera_objects.specs.Engine.{with_filter}
+use Rattle.tera_state.specs.Engine.{with_filter}
 use Rattle.tera.proofs.Registered.{registers}
 use Rattle.tera.proofs.registering.TeraOver+ObjectsOver+E+F+T+G.register_filter.Goals as goal
 

@@ -1,5 +1,5 @@
 use Rattle.tera_values.specs.Escape.{escape_html}
-use Rattle.tera_objects.specs.Engine.{with_escape}
+use Rattle.tera_state.specs.Engine.{with_escape}
 use Rattle.tera.proofs.Registered.{escapes-by}
 use Rattle.tera.proofs.registering.TeraOver+ObjectsOver+E+F+T+G.reset_escape_fn.Goals as goal
 

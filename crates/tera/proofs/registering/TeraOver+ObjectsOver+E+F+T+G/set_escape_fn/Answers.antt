@@ -1,4 +1,4 @@
-use Rattle.tera_objects.specs.Engine.{with_escape}
+use Rattle.tera_state.specs.Engine.{with_escape}
 use Rattle.tera.proofs.Registered.{escapes-by}
 use Rattle.tera.proofs.registering.TeraOver+ObjectsOver+E+F+T+G.set_escape_fn.Goals as goal
 

@@ -4,7 +4,7 @@ use Rattle.tera_errors.specs.Site.{Name}
 use Rattle.tera_syntax_tree.specs.Blocks.{blocks}
 use Rattle.tera_syntax_tree.specs.Tree.{Tree}
 use Rattle.tera_code.specs.Code.{nodes_code}
-use Rattle.tera_objects.specs.Engine.{Engine}
+use Rattle.tera_state.specs.Engine.{Engine}
 use Rattle.tera_meaning.specs.Known.{lacks_a_callee}
 use Rattle.tera_meaning.specs.Registry.{Registry}
 use Rattle.tera_meaning.specs.Rendering.{is_component_beside}

@@ -1,6 +1,6 @@
 use Rattle.std.proofs.Common.{◌≡◌, [], Ok, string_bytes, sym, ap, ◌∙◌, rules}
 use Rattle.tera_errors.specs.Site.{Name}
-use Rattle.tera_values_data.specs.Val.{Val}
+use Rattle.tera_value_types.specs.Val.{Val}
 use Rattle.tera_values.specs.Named.{put}
 use Rattle.tera_values.proofs.Named.{texts, text_inserted}
 use Rattle.tera_values.proofs.Contents.{put_none, put_next, put_whole, put_all-nil}

@@ -1,5 +1,0 @@
-use Rattle.std.proofs.Common.{rules}
-use Rattle.tera_objects.proofs.caller_calls.CallerObjectsObjects.has_own_test.Goals as goal
-
-pub returns : goal.returns
-returns g c = search (rules, c.has_registered_test.ensures)

@@ -1,9 +1,0 @@
-use Rattle.std.proofs.Common.{sym, ap, ◌∙◌, is_some}
-use Rattle.tera_objects.specs.Table.{listed}
-use Rattle.tera_objects.proofs.Each.{at-each, is_some-map}
-use Rattle.tera_values.specs.Named.{at_name}
-use Rattle.tera_objects.proofs.caller_objects.ObjectsOver.has_registered_filter.Goals as goal
-
-pub returns : goal.returns
-returns g c m =
-    c.contains.ensures ∙ sym (ap is_some (at-each m.filter c.args.name.now (listed c.args.self.now.filters.table)) ∙ is_some-map m.filter (at_name c.args.name.now (listed c.args.self.now.filters.table)))

@@ -1,6 +1,0 @@
-use Rattle.std.proofs.Common.{◌∙◌}
-use Rattle.tera_objects.proofs.Listed.{listed-get}
-use Rattle.tera_objects.proofs.table.ObjectTable.get.Goals as goal
-
-pub returns : goal.returns
-returns g c = c.get.ensures.value ∙ listed-get c.args.self.now.entries.entries c.args.name.now

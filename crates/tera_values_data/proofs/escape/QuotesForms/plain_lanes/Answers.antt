@@ -1,6 +1,0 @@
-use Rattle.std.proofs.Common.{slice_index_or, nat_eq}
-use Rattle.tera_values_data.proofs.Stretches.{last_form}
-use Rattle.tera_values_data.proofs.escape.QuotesForms.plain_lanes.Goals as goal
-
-pub returns-clause-plain : goal.returns-clause-plain
-returns-clause-plain c = λ k low high. let x = slice_index_or c.args.bytes.now k 0 in last_form (nat_eq x 92) (nat_eq x 34) (nat_eq x 10) (nat_eq x 13) (nat_eq x 9) _ _ _ _ _ _ (c.lanes_before.ensures.others k low high)

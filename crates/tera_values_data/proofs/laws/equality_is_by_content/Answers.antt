@@ -1,5 +1,0 @@
-use Rattle.tera_values_data.proofs.Same.{plain_from_same, same_from_plain}
-use Rattle.tera_values_data.proofs.laws.equality_is_by_content.Goals as goal
-
-pub returns : goal.returns
-returns c = λ v w. (plain_from_same v w, same_from_plain v w)

@@ -1,6 +1,0 @@
-use Rattle.std.proofs.Common.{◌≡◌, take}
-use Rattle.tera_values_data.specs.Slices.{picked_items}
-use Rattle.tera_values_data.proofs.slice.pick_items.Given as goal
-
-abbrev pub invariant-loop-position : goal.invariant-loop-position
-invariant-loop-position l = l.picked.items ≡ picked_items (take l.position-index l.positions) l.items

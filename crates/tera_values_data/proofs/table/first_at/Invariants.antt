@@ -1,8 +1,0 @@
-use Rattle.std.proofs.Common.{◌≡◌, drop}
-use Rattle.tera_values_data.specs.Val.{ktext}
-use Rattle.tera_values_data.specs.View.{entry_views}
-use Rattle.tera_values_data.specs.Access.{find}
-use Rattle.tera_values_data.proofs.table.first_at.Given as goal
-
-abbrev pub invariant-loop-entry : goal.invariant-loop-entry
-invariant-loop-entry l = find (ktext l.name) (entry_views (drop l.entry-index l.all)) ≡ find (ktext l.name) (entry_views l.all)

@@ -1,3 +1,0 @@
--- The definitions that contracts of other crates name, passed on from one file.
-pub use Rattle.tera_values_data.specs.Val.{array, bool, entries, int, map, text, Val, vals}
-pub use Rattle.tera_values_data.specs.Access.{IsScalar}

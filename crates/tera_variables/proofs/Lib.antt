@@ -1,4 +1,0 @@
-pub mod Unions
-pub mod Forms
-pub mod Bodies
-pub mod Rows

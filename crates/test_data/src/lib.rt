@@ -1,0 +1,11 @@
+//! Tests of data as values: each call once with ample memory, and the rows that show what a text of JSON spells.
+#![tactic(auto)]
+
+#[cfg(test)]
+mod checks;
+#[cfg(test)]
+mod contexts;
+#[cfg(test)]
+mod values;
+#[cfg(test)]
+mod words;

@@ -1,0 +1,105 @@
+//! Texts with filters, tests and calls in expressions.
+use super::rows::{RefusedText, TreeRow};
+
+/// Between the standard delimiters.
+pub static APPLICATIONS: [TreeRow; 24] = [
+    TreeRow("{{ a | f }}", "(|(a 3-4)f 3-8)"),
+    TreeRow(
+        "{{ a | f(x=1) | g }}",
+        "(|(|(a 3-4)f x=(1 11-12) 3-13)g 3-17)",
+    ),
+    TreeRow("{{ -a | f }}", "(-(|(a 4-5)f 4-9) 3-9)"),
+    TreeRow("{{ a ** b | f }}", "(Power(a 3-4)(|(b 8-9)f 8-13) 3-13)"),
+    TreeRow("{{ a | f ** b }}", "(Power(|(a 3-4)f 3-8)(b 12-13) 3-13)"),
+    TreeRow("{{ (a + b) | f }}", "(|(Add(a 4-5)(b 8-9) 4-9)f 3-14)"),
+    TreeRow("{{ not a is b }}", "(not(is(a 7-8)b 7-13) 3-13)"),
+    TreeRow(
+        "{{ a is not b(c=d) }}",
+        "(not(is(a 3-4)b c=(d 16-17) 3-18) 3-18)",
+    ),
+    TreeRow("{{ a is none }}", "(is(a 3-4)none 3-12)"),
+    TreeRow("{{ a is in }}", "(is(a 3-4)in 3-10)"),
+    TreeRow(
+        "{{ a is b is not c }}",
+        "(not(is(is(a 3-4)b 3-9)c 3-18) 3-18)",
+    ),
+    TreeRow(
+        "{{ a ~ b is c == d }}",
+        "(Equal(is(Concat(a 3-4)(b 7-8) 3-8)c 3-13)(d 17-18) 3-18)",
+    ),
+    TreeRow("{{ f() }}", "(call f 3-6)"),
+    TreeRow(
+        "{{ f(b=1, a=[2],) }}",
+        "(call f a=(array(2 13-14) 12-15) b=(1 7-8) 3-17)",
+    ),
+    TreeRow(
+        "{{ f(a=1).b | g }}",
+        "(|(.(call f a=(1 7-8) 3-9)b 3-11)g 3-15)",
+    ),
+    TreeRow(
+        "{{ f(x=a | g(y=1)) }}",
+        "(call f x=(|(a 7-8)g y=(1 15-16) 7-17) 3-18)",
+    ),
+    TreeRow(
+        "{{ a | if }}{{ a | not(for=1) }}",
+        "(|(a 3-4)if 3-9)(|(a 15-16)not for=(1 27-28) 15-29)",
+    ),
+    TreeRow(
+        "{% for v in e | f %}{{ loop.index | g }}{{ loop(a=1) }}{% endfor %}",
+        "(for v in (|(e 12-13)f 12-17) do (|(__tera_loop_index 23-33)g 23-37)(call loop a=(1 50-51) 43-52) else )",
+    ),
+    TreeRow(
+        "{% if a is b and c | d %}x{% endif %}",
+        "(if (and(is(a 6-7)b 6-12)(|(c 17-18)d 17-22) 6-22) then (x 25-26) else )",
+    ),
+    TreeRow("{{ super() | f }}", "(|(super 3-10)f 3-14)"),
+    TreeRow("{{ super (a=1) }}", "(super a=(1 12-13) 3-14)"),
+    TreeRow(
+        "{{ [a | f for a in b | g if c is d] }}",
+        "(each(|(a 4-5)f 4-9) for a in (|(b 19-20)g 19-24) if (is(c 28-29)d 28-34) 3-35)",
+    ),
+    TreeRow("{{ {\"a\": 1} | f }}", "(|(map:(1 9-10) 3-11)f 3-15)"),
+    TreeRow("{{ super | filter }}", "(|(super 3-8)filter 3-17)"),
+];
+
+pub static UNREAD_APPLICATIONS: [RefusedText; 39] = [
+    RefusedText("{{ f(a=1)(b=2) }}"),
+    RefusedText("{{ a | f.b }}"),
+    RefusedText("{{ a | f[0] }}"),
+    RefusedText("{{ a | f(x=1).b }}"),
+    RefusedText("{{ a is not not }}"),
+    RefusedText("{{ a is not not b }}"),
+    RefusedText("{{ a is }}"),
+    RefusedText("{{ a is not }}"),
+    RefusedText("{{ a is not in b }}"),
+    RefusedText("{{ a is b.c }}"),
+    RefusedText("{{ a is b c }}"),
+    RefusedText("{{ a is 'b' }}"),
+    RefusedText("{{ a is 1 }}"),
+    RefusedText("{{ a is (b) }}"),
+    RefusedText("{{ is a }}"),
+    RefusedText("{{ a | }}"),
+    RefusedText("{{ | f }}"),
+    RefusedText("{{ a | | f }}"),
+    RefusedText("{{ a | f g }}"),
+    RefusedText("{{ a | 'f' }}"),
+    RefusedText("{{ a | 1 }}"),
+    RefusedText("{{ a | (f) }}"),
+    RefusedText("{{ a | f(1) }}"),
+    RefusedText("{{ a | f(x=1)(y=2) }}"),
+    RefusedText("{{ a is b(x=1)(y=2) }}"),
+    RefusedText("{{ f(1) }}"),
+    RefusedText("{{ f(a) }}"),
+    RefusedText("{{ f(=1) }}"),
+    RefusedText("{{ f(a=1, a=2) }}"),
+    RefusedText("{{ f(a=1 b=2) }}"),
+    RefusedText("{{ f(,) }}"),
+    RefusedText("{{ f(a=1 }}"),
+    RefusedText("{{ a.b(c=1) }}"),
+    RefusedText("{{ (f)(a=1) }}"),
+    RefusedText("{{ none(a=1) }}"),
+    RefusedText("{{ if(a=1) }}"),
+    RefusedText("{{ 'f'(a=1) }}"),
+    RefusedText("{% for v in e %}{{ loop.index(a=1) }}{% endfor %}"),
+    RefusedText("{{ {a | f: 1} }}"),
+];

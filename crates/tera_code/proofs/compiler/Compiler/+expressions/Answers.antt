@@ -1,6 +1,6 @@
 use Rattle.std.proofs.Common.{rules, ◌≡◌, false, refl, ◌∙◌, ◌∷◌, [], ◌++◌, length, ap, sym}
 use Rattle.tera_syntax_tree.specs.declared.expression.Applied.{out-Applied}
-use Rattle.tera_syntax_tree.specs.declared.expression.FunctionCall.{out-Called}
+use Rattle.tera_syntax_tree.specs.declared.expression.FunctionCall.{out-FunctionCall}
 use Rattle.tera_syntax_tree.specs.declared.expression.Choice.{Choice}
 use Rattle.tera_syntax_tree.specs.declared.expression.ComponentTag.{out-ComponentTag}
 use Rattle.tera_syntax_tree.specs.declared.expression.Operands.{Operands}
@@ -105,7 +105,7 @@ application-returns t c =
 
 pub function_call-returns : goal.function_call-returns
 function_call-returns t c =
-    record { ok = taken_written _ _ _ _ _ (out-Called c.args.function_call.now).arguments.items (λ x. arguments_code (arguments_of x)) (λ y. instruction.CallFunction (out-Called c.args.function_call.now).name.now (argument_names (arguments_of y)) c.args.span) _ c.as_slice-arguments.ensures.value c.as_slice-arguments.ensures.value c.in_ok-arguments.ensures.ok c.call.ensures.ok }
+    record { ok = taken_written _ _ _ _ _ (out-FunctionCall c.args.function_call.now).arguments.items (λ x. arguments_code (arguments_of x)) (λ y. instruction.CallFunction (out-FunctionCall c.args.function_call.now).name.now (argument_names (arguments_of y)) c.args.span) _ c.as_slice-arguments.ensures.value c.as_slice-arguments.ensures.value c.in_ok-arguments.ensures.ok c.call.ensures.ok }
 
 pub tag-returns : goal.tag-returns
 tag-returns t c =

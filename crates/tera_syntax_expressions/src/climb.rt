@@ -128,7 +128,7 @@ impl<'s, F: Fn(Global, &mut Tokens<'_, 's>, usize, u8) -> Read<'s>> Reader<F> {
     {
         match tokens.kind() {
             Kind::If => self.choice(tokens, start, x),
-            Kind::Not => self.not_in(tokens, start, x),
+            Kind::Not => self.not_in_form(tokens, start, x),
             Kind::Is => self.test(tokens, start, x),
             Kind::Bar => self.filter(tokens, start, x),
             Kind::Dot => self.attribute(tokens, Access::new(start, false), x),

@@ -64,7 +64,7 @@ impl<'s, F: Fn(Global, &mut Tokens<'_, 's>, usize, u8) -> Read<'s>> Reader<F> {
     /// `x not in y`
     #[inline(never)]
     #[tactic(auto, unfolding(crate::specs::Expressions::not_in, crate::specs::Expressions::applied))]
-    pub(crate) fn not_in(
+    pub(crate) fn not_in_form(
         &self,
         tokens: &mut Tokens<'_, 's>,
         start: usize,

@@ -79,8 +79,8 @@ returns-then-writes_top_at-clause-stands g c =
 pub returns-then-writes_top_at-clause-does : goal.returns-then-writes_top_at-clause-does
 returns-then-writes_top_at-clause-does g c =
     let did = more_did (untested g (goal.at.returns-then-writes_top_at-clause-does g c).In_default-tested) (c.if-writes_top_at.ensures.means refl) refl c.if-writes_top_at.ensures.count in
-    let put = subst (λ f. Effected (put_out (output (here_of g.O.Objects.engine c.args.machine.now f c.args.self.now) c.in-Ok.reached) (config_of c.args.self.now)) c.put_out.result (config_of (record c.args.self.now { texts = c.put_out.new.texts }))) c.file.ensures (c.put_out.ensures c.args.self.now refl) in
-    (subst (λ d. Effected d c.put_out.result (config_of (record c.args.self.now { texts = c.put_out.new.texts }))) (sym did) put, (refl, on_ok c.put_out.result refl))
+    let put = subst (λ f. Effected (put_out (output (here_of g.O.Objects.engine c.args.machine.now f c.args.self.now) c.in-Ok.reached) (config_of c.args.self.now)) c.write_lent.result (config_of (record c.args.self.now { texts = c.write_lent.new.texts }))) c.file.ensures (c.write_lent.ensures c.args.self.now refl) in
+    (subst (λ d. Effected d c.write_lent.result (config_of (record c.args.self.now { texts = c.write_lent.new.texts }))) (sym did) put, (refl, on_ok c.write_lent.result refl))
 
 pub overflow_add-at-2 : goal.overflow_add-at-2
 overflow_add-at-2 g c = omega (arith, (untested g (goal.at.overflow_add-at-2 g c).In_default-tested).stands.there, c.requires.few)

@@ -21,8 +21,8 @@ returns-in_err-component-clause-defined c = λ r name taken.
     let gone : component q name ≡ None = component-none q name (chosen ts.choices name) (chosen-in-all q ts.choices ts.chosen name) none in
     rw c.from_residual-in_err-component.ensures gone
 
-pub defined_at-requires : goal.defined_at-requires
-defined_at-requires c =
+pub definition_at-requires : goal.definition_at-requires
+definition_at-requires c =
     let ts = c.args.self.now.templates.now in
     let p = c.in_ok-link.ensures.some in
     choice-taken (registry_in ts) ts.choices p.0 c.in_ok-link.link c.in_ok-component.component p.1 c.in_ok-component.ensures
@@ -31,4 +31,4 @@ pub returns-clause-defined : goal.returns-clause-defined
 returns-clause-defined c = λ r name taken.
     let b = c.args.self.now in
     let ts = b.templates.now in
-    c.defined_at.ensures.defined r name (call-leads (registry_in ts) ts.choices c.args.at name c.in_ok-link.link (leads-so b c.args.at (ComponentNamed name) c.in_ok-link.link c.in_ok-link.ensures.exact taken) ∙ sym c.in_ok-component.ensures)
+    c.definition_at.ensures.defined r name (call-leads (registry_in ts) ts.choices c.args.at name c.in_ok-link.link (leads-so b c.args.at (ComponentNamed name) c.in_ok-link.link c.in_ok-link.ensures.exact taken) ∙ sym c.in_ok-component.ensures)

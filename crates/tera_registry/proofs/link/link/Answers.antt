@@ -54,7 +54,7 @@ any_is_incomplete-requires g c = λ κs within.
           (
             sym (length-rows c.as_slice-4.result.now) ∙ edges.as_many,
             (
-              subst (λ (r : Registry). AreChosen r c.in_ok-components_by_name.field-0.components_by_name) here (chosen-served engine ts ps c.in_ok-components_by_name.field-0.components_by_name c.in_ok-components_by_name.ensures.taken),
+              subst (λ (r : Registry). AreChosen r c.in_ok-components_by_name.field-0.choices) here (chosen-served engine ts ps c.in_ok-components_by_name.field-0.choices c.in_ok-components_by_name.ensures.taken),
               ap (λ (r : Registry). r.engine) c.requires.1.1,
             ),
           ),
@@ -100,5 +100,5 @@ returns-clause-ups g c =
 pub returns-clause-components_by_name : goal.returns-clause-components_by_name
 returns-clause-components_by_name g c =
     let engine = g.O.Objects.engine c.args.objects.now in
-    let choices = c.in_ok-components_by_name.field-0.components_by_name in
+    let choices = c.in_ok-components_by_name.field-0.choices in
     subst (λ (r : Registry). AreChosen r choices) (sym c.requires.1.1) (chosen-served engine c.args.templates.now c.args.prefixes.now choices c.in_ok-components_by_name.ensures.taken)

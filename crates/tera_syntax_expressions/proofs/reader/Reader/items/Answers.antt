@@ -12,7 +12,7 @@ use Rattle.tera_syntax_expressions.proofs.reader.Reader.items.Goals as goal
 
 -- an item was read behind those that were found: what the loop stands for is what is behind it
 behind-item : (g : Over) (c : After-max-depth g) → Behind (items_from c.args.self.now.limit (expr c.args.self.now.below) (left (input c.args.tokens.now)) (items_of c.args.all.items) c.args.depth (input c.args.tokens.now)) RightBracket
-    (λ (p : Items × ℕ). items_from c.args.self.now.limit (expr c.args.self.now.below) (c.left-round-end.result - (c.loop-round._round + 1)) p.0 p.1) (items_of c.item.new.found.items, c.max-depth.result) (input c.item.new.tokens)
+    (λ (p : Items × ℕ). items_from c.args.self.now.limit (expr c.args.self.now.below) (c.count_left-round-end.result - (c.loop-round._round + 1)) p.0 p.1) (items_of c.item.new.found.items, c.max-depth.result) (input c.item.new.tokens)
 behind-item g c =
     let x = c.in-Ok.ensures in
     items_read c.args.self.now.limit (expr c.args.self.now.below) _ _ (items_of c.loop-round.found.items) c.loop-round.depth (input c.loop-round.tokens) c.loop-round-test.true c.loop-round.invariant

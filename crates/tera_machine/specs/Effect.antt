@@ -262,7 +262,7 @@ effect here next (EndCapture span) = capture_ended here.autoescape span
 effect here next (LeaveLoop drops) = loop_left drops
 effect here next (LeaveTurn drops) = turn_left drops
 effect here next (TakeBlock name span) = block_taken name span
-effect here next (TakeAbove arguments span) = above_taken arguments span
+effect here next (TakeSuper arguments span) = above_taken arguments span
 effect here next (TakeInclude name span) = include_taken name span
 effect here next (TakeComponent name keys has_body span) =
     component_taken here name keys has_body span

@@ -137,6 +137,10 @@ placed-once done (m ∷ ms) =
     ∙ placed-once (done ++ m ∷ []) ms
     ∙ ap (λ (l : Named Val). text_keys (once l)) (append_assoc done (m ∷ []) ms)
 
+-- members put into no entries are each name once
+pub placed_none : (ms : Named Val) → placed [] ms ≡ text_keys (once ms)
+placed_none ms = placed-once [] ms
+
 -- each name once, where members are read: as they are put into no entries
 pub once_placed : (r : Result (Named Val) Fault) → then r (λ vs. Ok (text_keys (once vs))) ≡ then r (λ vs. Ok (placed [] vs))
 once_placed (Ok vs) = ap (λ (es : List (KeyVal × Val)). Ok es) (sym (placed-once [] vs))

@@ -1,5 +1,5 @@
 // What holds of the definitions that contracts cite. Nothing here runs.
-ghost use Rattle.tera_data.specs.Laws.{LastMemberWins, NewNameGoesLast, KnownNamesStay};
+ghost use Rattle.tera_data.specs.Laws.{LastMemberWins, NewNameGoesLast, KnownNamesStay, FieldsStandUnderNames, TomlHasOneAnswer};
 
 /// Of members with one name the last gives the value.
 pub fn last_member_wins()
@@ -14,4 +14,14 @@ pub fn new_name_goes_last()
 /// A member whose name is there already moves no name.
 pub fn known_names_stay()
     ensures { KnownNamesStay }
+{}
+
+/// Where floats are refused, the answer of a text of TOML is a function of its bytes.
+pub fn toml_has_one_answer()
+    ensures { TomlHasOneAnswer }
+{}
+
+/// The fields of a record of CSV stand under the names of the first one, in their order.
+pub fn fields_stand_under_names()
+    ensures { FieldsStandUnderNames }
 {}

@@ -36,7 +36,7 @@ pub(crate) fn number_of(alloc: Global, text: &str, floats: Floats) -> TeraResult
     }
 }
 
-fn value_of_other(alloc: Global, text: &str, floats: Floats) -> TeraResult<Value>
+pub(crate) fn value_of_other(alloc: Global, text: &str, floats: Floats) -> TeraResult<Value>
     ensures { Gives (λ v. v) result (of_other floats text.now) }
 {
     match floats {

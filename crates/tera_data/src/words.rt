@@ -3,6 +3,7 @@ ghost use Rattle.std.specs.Prelude.{◌≡◌};
 ghost use Rattle.tera_errors.specs.Prelude.{message, Tells};
 
 use crate::fault::{Fault, fault_of};
+use csv::StringRecord;
 use json::Value as Json;
 use std::alloc::{AllocError, Global};
 use tera_errors::{Error, Place, place_of};
@@ -128,4 +129,38 @@ pub(crate) fn unreadable_text(alloc: Global, text: &str) -> Error
     let Fault { at, wanted } = fault_of(alloc, text);
     let Place { line, column } = place_of(text, at);
     Error::message_from(format!(in alloc; "line {line}, column {column}: {wanted}"))
+}
+
+/// The text is no TOML.
+pub(crate) fn no_toml(alloc: Global, text: &str, error: &toml::de::Error) -> Error
+    ensures { Tells result message }
+{
+    let at = error.span().map_or(0, |span| span.start).min(text.len());
+    let Place { line, column } = place_of(text, at);
+    let words = error.message();
+    Error::message_from(format!(in alloc; "line {line}, column {column}: {words}"))
+}
+
+/// The record has another number of fields than the header has names.
+pub(crate) fn unlike_header(alloc: Global, text: &str, names: usize, row: &StringRecord) -> Error
+    ensures { Tells result message }
+{
+    let from = row.position().map_or(1, |position| position.line());
+    let line = full_line(text, from);
+    let fields = row.len();
+    Error::message_from(format!(in alloc;
+        "line {line}, column 1: fields in this record: {fields}, and in the first record, which names them: {names}"
+    ))
+}
+
+// The first line from this one on that is not empty: a reader passes over empty lines before a record.
+fn full_line(text: &str, from: u64) -> u64 {
+    let mut line: u64 = 0;
+    for content in text.lines() {
+        line = line.saturating_add(1);
+        if line >= from && !content.is_empty() {
+            return line;
+        }
+    }
+    from
 }

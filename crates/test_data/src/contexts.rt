@@ -1,7 +1,7 @@
 // Contexts from data, one over another.
 use crate::checks::is_value;
 use std::alloc::Global;
-use tera_data::{Floats, json_context, put_json};
+use tera_data::{Floats, json_context, put_csv, put_json, put_toml, toml_context};
 use tera_values::{Context, TeraResult};
 
 fn shows(alloc: Global, context: &Context, want: &str) -> bool {
@@ -55,6 +55,65 @@ fn texts_are_contexts(rt: HostRuntime) {
         assert!(rt;
             becomes(rt.alloc(), first, second, want),
             "{first} {second}"
+        );
+    }
+}
+
+fn put_toml_over(alloc: Global, first: &str, second: &str) -> TeraResult<Context> {
+    let mut context = toml_context(alloc, first, Floats::Refuse)?;
+    match put_toml(&mut context, second, Floats::Refuse) {
+        Ok(()) => {}
+        Err(error) => drop(error),
+    }
+    Ok(context)
+}
+
+#[test]
+fn texts_of_toml_are_contexts(rt: HostRuntime) {
+    for (first, second, want) in [
+        ("", "", "map {}"),
+        ("b = 1\na = [2]", "", "map {\"a\": [2], \"b\": 1}"),
+        (
+            "a = 1\nb = 2",
+            "b = 3\nc = 4",
+            "map {\"a\": 1, \"b\": 3, \"c\": 4}",
+        ),
+        ("[a]\nx = 1", "a.y = 2", "map {\"a\": {\"y\": 2}}"),
+        ("a = 1", "a = 2\nb = 1.5", "map {\"a\": 1}"),
+        ("a = 1", "a = 2\nb", "map {\"a\": 1}"),
+    ] {
+        assert!(rt;
+            match put_toml_over(rt.alloc(), first, second) {
+                Ok(context) => shows(rt.alloc(), &context, want),
+                Err(_) => false,
+            },
+            "{first} {second}"
+        );
+    }
+}
+
+fn put_csv_over(alloc: Global, first: &str, text: &str) -> TeraResult<Context> {
+    let mut context = toml_context(alloc, first, Floats::Refuse)?;
+    match put_csv(&mut context, "rows", text) {
+        Ok(()) => {}
+        Err(error) => drop(error),
+    }
+    Ok(context)
+}
+
+#[test]
+fn texts_of_csv_are_put_at_names(rt: HostRuntime) {
+    for (first, text, want) in [
+        ("a = 1", "", "map {\"a\": 1, \"rows\": []}"),
+        ("rows = 1", "n\n7", "map {\"rows\": [{\"n\": \"7\"}]}"),
+        ("rows = 1", "n\n7,8", "map {\"rows\": 1}"),
+    ] {
+        assert!(rt;
+            match put_csv_over(rt.alloc(), first, text) {
+                Ok(context) => shows(rt.alloc(), &context, want),
+                Err(_) => false,
+            },
+            "{first} {text}"
         );
     }
 }

@@ -186,7 +186,7 @@ module _ (here : Here) (next : ℕ) where
   effect_still (LeaveLoop drops) c = (refl, past_still 1 (innermost c.loops))
   effect_still (LeaveTurn drops) c = (refl, past_still 0 (innermost c.loops))
   effect_still (TakeBlock name span) c = (refl, tt)
-  effect_still (TakeAbove arguments span) c = above_still span _ c
+  effect_still (TakeSuper arguments span) c = above_still span _ c
   effect_still (TakeInclude name span) c = (refl, refl)
   effect_still (TakeComponent name keys has_body span) c =
       given_still here name keys has_body span (topmost (length keys) c.operands) c

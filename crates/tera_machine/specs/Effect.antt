@@ -262,7 +262,7 @@ effect here next (EndCapture span) = capture_ended here.autoescape span
 effect here next (LeaveLoop drops) = loop_left drops
 effect here next (LeaveTurn drops) = turn_left drops
 effect here next (TakeBlock name span) = block_taken name span
-effect here next (TakeAbove arguments span) = above_taken arguments span
+effect here next (TakeSuper arguments span) = above_taken arguments span
 effect here next (TakeInclude name span) = include_taken name span
 effect here next (TakeComponent name keys has_body span) =
     component_taken here name keys has_body span
@@ -289,6 +289,11 @@ IsSmall (Goes c Out) = Unit {0}
 IsSmall (Goes c (Ask q u)) = Unit {0}
 IsSmall (Faults fault) = Unit {0}
 IsSmall Sticks = Unit {0}
+
+-- it can be done there: the operands are there, and the code can count the jump
+pub record CanDo (does : Config → Did) (before : Configuration) : Type 0 where
+  pub ready : IsReady does before
+  pub small : IsSmall (does (config_of before))
 
 -- the turns to come of the loops that are open around the body that runs, in its state
 abbrev pub beneath_in : {A : Type 0} → List A → List (List Turn) → List (List Turn)

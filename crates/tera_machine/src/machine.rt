@@ -292,7 +292,7 @@ impl<'t, O: Objects> VirtualMachine<'t, O> {
                 continue;
             };
             let mut last = at;
-            let flow = match configuration.perform(
+            let flow = match configuration.run_instruction(
                 &machine,
                 chunk,
                 &mut last,

@@ -152,7 +152,7 @@ ROWS = [
     *ordered("names that are set, put out", 800, sets, ALL, collide=150),
     *ordered("names that are set in a loop's body, put out", 600, sets_in_a_loop),
     *ordered("names set for all in a loop's body, put out", 600, sets_for_all),
-    *ordered("names that are set, and as many turns that set one behind a name set for all", 600, set_between_turns),
+    *ordered("names that are set, and as many turns that set one after a name set for all", 600, set_between_turns),
     *ordered("names that are set, and as many loops, each with a name set for all", 600, sets_for_all_behind_a_turn),
     *ordered("names that are set in an include, put out", 600, set_in_an_include),
     *ordered("names that are set, put out by an include", 600, set_around_an_include),

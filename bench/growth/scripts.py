@@ -85,9 +85,9 @@ def waiting(templates):
     return "".join(body(f"template {name}", text) for name, text in templates)
 
 
-def added(templates, behind=""):
+def added(templates, after=""):
     """Adds the templates in one batch."""
-    return f"{waiting(templates)}@@ add\n{behind}"
+    return f"{waiting(templates)}@@ add\n{after}"
 
 
 def page(text, parts=()):

@@ -103,7 +103,7 @@ def behind_prefixes(size):
     return "@@ prefix " + " ".join(f"{name}/" for name in scattered(size)) + "\n" + added([("a0000000/t", "x"), ("page", '{% include "t" %}')], "@@ render page\n")
 
 
-def names_behind_prefixes(size):
+def names_after_prefixes(size):
     names = scattered(size)
     return "@@ prefix a/ b/ c/ d/\n" + page(each('{% include "N" %}', names), [(f"d/{name}", "x") for name in names])
 
@@ -169,7 +169,7 @@ ROWS = [
     Row("templates, and as many texts that call their components", 800, renderings_with_components),
     Row("one of the blocks, by `@@ block`", 2_000, one_block),
     Row("prefixes", 20_000, behind_prefixes),
-    Row("names behind one of four prefixes", 1_000, names_behind_prefixes),
+    Row("names after one of four prefixes", 1_000, names_after_prefixes),
     Row("suffixes", 20_000, suffixes),
 ]
 

@@ -12,9 +12,9 @@ TEXTS = {
     "comments": ("", "{#c#}", ""),
     "tags that trim white space": ("", "{{- name -}}   ", ""),
     "white space before one tag that trims it": ("", " ", "{{- name }}"),
-    "white space behind one tag that trims it": ("{{ name -}}", " ", ""),
+    "white space after one tag that trims it": ("{{ name -}}", " ", ""),
     "a long text between quotes": ("{{ '", "a", "' }}"),
-    "signs behind backslashes": ("{{ '", "\\n", "' }}"),
+    "signs after backslashes": ("{{ '", "\\n", "' }}"),
     "raw texts": ("", "{% raw %}{{ x }}{% endraw %}", ""),
     "starts of tags in a raw text": ("{% raw -%}", " {%", " {%- endraw %}"),
 }

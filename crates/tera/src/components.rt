@@ -13,6 +13,7 @@ ghost use Rattle.tera.specs.Rendering.{ComponentByName, AppendsOneOf};
 
 use crate::engine::TeraOver;
 use crate::refusals::no_component;
+use crate::texts::append_text;
 use std::alloc::Global;
 use tera_code::{Steps, Tally};
 use tera_components::ComponentInfo;
@@ -114,7 +115,7 @@ impl<O: Objects> TeraOver<O> {
             args.now implicits.now (lent_text body.entry) autoescape) }
     {
         let text = self.render_component(name, args, implicits, body, autoescape)?;
-        out.extend_from_slice(text.as_bytes())?;
+        append_text(text, out)?;
         Ok(())
     }
 

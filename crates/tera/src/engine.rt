@@ -187,7 +187,7 @@ impl<O: Objects> TeraOver<O> {
             (OneOff (registry_of O.engine self.now) input.now context.now autoescape) }
     {
         let text = self.render_str(input, context, autoescape)?;
-        out.extend_from_slice(text.as_bytes())?;
+        append_text(text, out)?;
         Ok(())
     }
 }

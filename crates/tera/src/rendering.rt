@@ -86,10 +86,10 @@ impl<O: Objects> TeraOver<O> {
         let own = components(alloc, ONE_OFF, definitions)?;
         let text = TextTable::new(alloc, &self.templates, chunk, own)?;
         if text.has_missing_callee(&self.objects) {
-            return Err(text.all_missing(ONE_OFF, source.text, &self.objects));
+            return Err(text.missing_error(ONE_OFF, source.text, &self.objects));
         }
         if self.templates.has_missing_include(output) {
-            return Err(text.all_missing(ONE_OFF, source.text, &self.objects));
+            return Err(text.missing_error(ONE_OFF, source.text, &self.objects));
         }
         let alone = VirtualMachine::new_with_autoescape(alloc, autoescape, &self.objects);
         let machine = alone.with_text(&text);

@@ -9,7 +9,7 @@ ghost use Rattle.tera.specs.Rendering.{ByName, BlockByName, AppendsOneOf};
 use crate::engine::TeraOver;
 use crate::refusals::{no_block, no_template};
 use crate::sources::tell_of_batch;
-use crate::texts::ends_with_one_of;
+use crate::texts::{append_text, ends_with_one_of};
 use std::collections::BTreeSet;
 use tera_code::{Steps, Tally};
 use tera_registry::FoundTemplate;
@@ -113,7 +113,7 @@ impl<O: Objects> TeraOver<O> {
             (ByName (registry_of O.engine self.now) name.now context.now) }
     {
         let text = self.render(name, context)?;
-        out.extend_from_slice(text.as_bytes())?;
+        append_text(text, out)?;
         Ok(())
     }
 
@@ -149,7 +149,7 @@ impl<O: Objects> TeraOver<O> {
             (BlockByName (registry_of O.engine self.now) name.now block.now context.now) }
     {
         let text = self.render_block(name, block, context)?;
-        out.extend_from_slice(text.as_bytes())?;
+        append_text(text, out)?;
         Ok(())
     }
 }

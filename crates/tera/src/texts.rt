@@ -1,11 +1,11 @@
-// Texts that an engine keeps.
-ghost use Rattle.std.specs.Prelude.{◌≡◌, Ok, map, nat_eq, string_bytes};
+// Texts that an engine keeps, and texts that it hands out.
+ghost use Rattle.std.specs.Prelude.{◌≡◌, ◌++◌, Ok, OnErr, OnOk, map, nat_eq, string_bytes};
 ghost use Rattle.std.specs.List.{list_any, ends_with};
 ghost use Rattle.tera_errors.specs.Prelude.{Gives};
 ghost use Rattle.tera_meaning.specs.Prelude.{standard_suffixes};
 ghost use Rattle.tera.specs.Lent.{texts_of};
 
-use std::alloc::Global;
+use std::alloc::{AllocError, Global};
 use tera_values::TeraResult;
 
 /// A copy of each text.
@@ -33,4 +33,16 @@ pub fn ends_with_one_of(name: &str, suffixes: &[String]) -> bool
     suffixes
         .iter()
         .any(|suffix| name.ends_with(suffix.as_str()))
+}
+
+/// Puts the text after what is there. A vector that holds nothing and has no room for it takes over the memory of the text.
+pub fn append_text(text: String, out: &mut Vec<u8>) -> Result<(), AllocError>
+    ensures ok { OnOk result (out.new.items ≡ out.old.items ++ string_bytes text) }
+    ensures err { OnErr result (out.new.items ≡ out.old.items) }
+{
+    if out.is_empty() && out.capacity() < text.len() {
+        *out = text.into_bytes();
+        return Ok(());
+    }
+    out.extend_from_slice(text.as_bytes())
 }

@@ -21,25 +21,25 @@ enum EntryPart {
 pub fn values(alloc: Global, value: &Value) -> TeraResult<Value>
     ensures { Gives (λ v. v) result (values_of value.now) }
 {
-    each_of(alloc, value, EntryPart::Value)
+    array_of_parts(alloc, value, EntryPart::Value)
 }
 
 /// The keys of a map, in its order; a text key is an unmarked text.
 pub fn keys(alloc: Global, value: &Value) -> TeraResult<Value>
     ensures { Gives (λ v. v) result (keys_of plain value.now) }
 {
-    each_of(alloc, value, EntryPart::Key)
+    array_of_parts(alloc, value, EntryPart::Key)
 }
 
 /// Each key of a map with its value, as an array of two, in its order.
 pub fn pairs(alloc: Global, value: &Value) -> TeraResult<Value>
     ensures { Gives (λ v. v) result (pairs_of plain value.now) }
 {
-    each_of(alloc, value, EntryPart::Pair)
+    array_of_parts(alloc, value, EntryPart::Pair)
 }
 
 // An array of this part of each entry of a map, in its order.
-fn each_of(alloc: Global, value: &Value, part: EntryPart) -> TeraResult<Value>
+fn array_of_parts(alloc: Global, value: &Value, part: EntryPart) -> TeraResult<Value>
     ensures { Gives (λ v. v) result (each_of (part_value plain part) value.now) }
 {
     let all = as_map(alloc, value)?;

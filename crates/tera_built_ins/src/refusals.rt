@@ -89,7 +89,7 @@ pub(crate) fn no_attribute(alloc: Global, item: &Value, path: &str) -> Error
 
 /// Two neighbours in the order of values are not comparable.
 #[inline(never)]
-pub(crate) fn not_comparable(alloc: Global, left: &Value, right: &Value) -> Error
+pub(crate) fn incomparable_error(alloc: Global, left: &Value, right: &Value) -> Error
     ensures { Tells result message }
 {
     let (left, right) = (left.in_words(), right.in_words());

@@ -113,7 +113,7 @@ impl ComponentDefinition {
     }
 
     // The arguments of a map that no parameter takes.
-    fn others_of(&self, alloc: Global, given: &Map) -> TeraResult<Map>
+    fn rest_of_map(&self, alloc: Global, given: &Map) -> TeraResult<Map>
         ensures { Gives (λ m. m) result
             (Ok (text_keys (left_over self.now (named_arguments given.now)))) }
     {
@@ -128,7 +128,7 @@ impl ComponentDefinition {
 
     // The same of all that is given. A call mostly gives what its parameters take: then no map of it is made.
     #[inline(always)]
-    fn others(&self, alloc: Global, given: &Entries<'_>) -> TeraResult<Map>
+    fn rest_arguments(&self, alloc: Global, given: &Entries<'_>) -> TeraResult<Map>
         ensures { Gives (λ m. m) result
             (Ok (text_keys (left_over self.now (named_arguments given.now)))) }
     {
@@ -136,8 +136,8 @@ impl ComponentDefinition {
             return Ok(Map::new(alloc));
         }
         match given.as_map() {
-            Some(given) => self.others_of(alloc, given),
-            None => self.others_of(alloc, &given.to_map(alloc)?),
+            Some(given) => self.rest_of_map(alloc, given),
+            None => self.rest_of_map(alloc, &given.to_map(alloc)?),
         }
     }
 
@@ -210,7 +210,7 @@ impl ComponentDefinition {
     ) -> TeraResult<Kwargs>
         ensures { Binds self.now (named_arguments given.now) body (C.implicit caller.now) result }
     {
-        let others = self.others(alloc, given)?;
+        let others = self.rest_arguments(alloc, given)?;
         let mut ordered = map_with_body(alloc, body)?;
         self.map_arguments(alloc, given, caller, &mut ordered)?;
         let mut context = Kwargs::of_map(alloc, ordered)?;
@@ -232,7 +232,7 @@ impl ComponentDefinition {
         if self.arguments.len() > FEW {
             return self.bind_many(alloc, given, caller, body);
         }
-        let others = self.others(alloc, given)?;
+        let others = self.rest_arguments(alloc, given)?;
         let mut context = context_with_body(alloc, self.arguments.len(), body)?;
         self.put_arguments(alloc, given, caller, &mut context)?;
         self.put_others(alloc, others, &mut context)?;

@@ -32,11 +32,11 @@ pub(crate) fn number_of(alloc: Global, text: &str, floats: Floats) -> TeraResult
 {
     match integer_of(text) {
         Some(number) => Ok(Value::from_int(number)),
-        None => other_of(alloc, text, floats),
+        None => value_of_other(alloc, text, floats),
     }
 }
 
-fn other_of(alloc: Global, text: &str, floats: Floats) -> TeraResult<Value>
+fn value_of_other(alloc: Global, text: &str, floats: Floats) -> TeraResult<Value>
     ensures { Gives (λ v. v) result (of_other floats text.now) }
 {
     match floats {

@@ -3,7 +3,7 @@ use Rattle.std.proofs.Common.{◌≡◌, ℕ, Bool, false, List, ◌∷◌, leng
 use Rattle.tera_errors.specs.Site.{Name}
 use Rattle.tera_errors.specs.Answer.{SeenError}
 use Rattle.tera_errors.specs.declared.span.Span.{Span}
-use Rattle.tera_state.specs.Scope.{OuterBlocks}
+use Rattle.tera_state.specs.Scope.{Around}
 use Rattle.tera_state.specs.Scopes.{around_of}
 use Rattle.tera_meaning.specs.Run.{Request}
 use Rattle.tera_meaning.specs.Whole.{World, Place}
@@ -45,7 +45,7 @@ keeps_asked w m file a b0 c0 {inside} entry here at = record {
 }
 
 -- a body that stands in a state of its own
-module _ (w : World) (p : Place) (q : Request) (u : Use) (keeps : KeepsText q) (b0 : OpenBodies) (c0 : Configuration) {p1 : Place} {code : Code} {b1 : OpenBodies} {c1 : Configuration} (entry : Entered w p q (config_of c0) p1 code (config_of c1)) {inside : OuterBlocks} {outer : SavedBody} (begins : Begins inside c0 outer c1) (seen : inside.above ≡ reading c0.scopes ∷ (around_of c0.scopes).above) {around : Kept} (opened : b1.opened ≡ begun b0.opened) (start : around.start ≡ length b0.opened.around) (notes : around.notes ≡ b0.wanted.notes) (wanted : b1.wanted ≡ record b0.wanted { notes = false }) where
+module _ (w : World) (p : Place) (q : Request) (u : Use) (keeps : KeepsText q) (b0 : OpenBodies) (c0 : Configuration) {p1 : Place} {code : Code} {b1 : OpenBodies} {c1 : Configuration} (entry : Entered w p q (config_of c0) p1 code (config_of c1)) {inside : Around} {outer : SavedBody} (begins : Begins inside c0 outer c1) (seen : inside.above ≡ reading c0.scopes ∷ (around_of c0.scopes).above) {around : Kept} (opened : b1.opened ≡ begun b0.opened) (start : around.start ≡ length b0.opened.around) (notes : around.notes ≡ b0.wanted.notes) (wanted : b1.wanted ≡ record b0.wanted { notes = false }) where
   closes_apart : (most : ℕ) → BodyWithin w p q u (config_of c0) most → (b3 : OpenBodies) (c3 : Configuration) (j : ℕ) → Stays b1 c1 b3 c3 → Ends w p1 code 0 (config_of c1) (Finished (config_of c3) j) → (b4 : OpenBodies) (c4 : Configuration) (r : Waiting) → r.outer ≡ outer → r.above ≡ b0.above → LeavesApart u around r b3 c3 b4 c4 → b4.included ≡ b0.included → BodyEnds w p q u (config_of c0) (Finished (config_of c4) j) × Stays b0 c0 b4 c4
   closes_apart most may b3 c3 j stay over b4 c4 r is above l included =
       let rejoins = subst (λ o. Rejoins u c3 o c4) is l.rejoins in

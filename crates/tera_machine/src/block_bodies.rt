@@ -155,7 +155,7 @@ impl<'t, O: Objects> VirtualMachine<'t, O> {
     {
         match self.template {
             Some(found) => found.definers(name.as_str()),
-            None => Definers::none(),
+            None => Definers::of_none(),
         }
     }
 

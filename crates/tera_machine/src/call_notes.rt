@@ -25,7 +25,7 @@ fn with_call_note(alloc: Global, error: Error, waiting: &Waiting<'_>) -> Error
 {
     let chunk = waiting.body.chunk();
     match chunk.span_at(waiting.at.saturating_sub(1)) {
-        Some(span) => error.called_from(alloc, chunk.file(), span),
+        Some(span) => error.with_caller(alloc, chunk.file(), span),
         None => error,
     }
 }

@@ -16,7 +16,7 @@ ghost use Rattle.tera_machine.specs.Subject.{IsLinked, IsOf, kept_beside, place_
 use crate::block_bodies::SavedBody;
 use crate::configuration::Configuration;
 use crate::machine::{Limit, VirtualMachine};
-use crate::refusals::{no_component, too_deep};
+use crate::refusals::{no_component, too_deep_component};
 use crate::requests::ComponentRequest;
 use tera_operators::{Operand, fault_at};
 use tera_registry::{Body, Defined, TextTable};
@@ -144,7 +144,7 @@ impl<'t, O: Objects> VirtualMachine<'t, O> {
             Err(error) => return Err(fault_at(self.alloc, here.chunk().file(), &error, span)),
         };
         if self.depth >= MAX_DEPTH {
-            return Err(too_deep(self.alloc, name));
+            return Err(too_deep_component(self.alloc, name));
         }
         Ok(ComponentBody {
             body: component.body,

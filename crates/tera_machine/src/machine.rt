@@ -172,7 +172,7 @@ impl<'t, O: Objects> VirtualMachine<'t, O> {
         ensures stays { OnOk result (around_of configuration.new.scopes
             ≡ around_of configuration.old.scopes) }
     {
-        let mut blocks = OpenBodies::new(self.alloc, WantedBlock::none());
+        let mut blocks = OpenBodies::new(self.alloc, WantedBlock::of_none());
         self.run_counted::<Brand, T>(body, &mut blocks, configuration, steps)
     }
 

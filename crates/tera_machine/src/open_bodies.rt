@@ -60,7 +60,7 @@ impl<'t> OpenBodies<'t> {
     {
         OpenBodies {
             opened: OpenThings::new(alloc),
-            above: Definers::none(),
+            above: Definers::of_none(),
             wanted,
             included: OpenThings::new(alloc),
         }
@@ -76,7 +76,7 @@ impl<'t> OpenBodies<'t> {
         ensures before { (result.start ≡ length self.old.opened.around)
             × (result.notes ≡ self.old.wanted.notes) }
     {
-        self.above = Definers::none();
+        self.above = Definers::of_none();
         OuterBlocks {
             start: self.opened.begin(),
             notes: replace(&mut self.wanted.notes, false),

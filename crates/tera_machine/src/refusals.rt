@@ -77,7 +77,7 @@ pub(crate) fn no_component(alloc: Global, name: &Name, file: &str, span: Span) -
 
 /// As many components are open as may be.
 #[inline(never)]
-pub(crate) fn too_deep(alloc: Global, name: &Name) -> Error
+pub(crate) fn too_deep_component(alloc: Global, name: &Name) -> Error
     ensures { Tells result message }
 {
     let name = name.as_str();

@@ -29,7 +29,7 @@ impl Drop for WantedBlock {
 
 impl WantedBlock {
     /// No block is wanted; takes no memory.
-    pub fn none() -> WantedBlock
+    pub fn of_none() -> WantedBlock
         ensures name { result.name ≡ None }
         ensures notes { IsTrue result.notes }
         ensures last { text_kept result ≡ None }

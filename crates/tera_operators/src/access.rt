@@ -128,7 +128,7 @@ pub fn item(
 }
 
 #[inline(never)]
-fn no_bound(alloc: Global, file: &str, operand: &Operand) -> Error
+fn no_slice_bound(alloc: Global, file: &str, operand: &Operand) -> Error
     ensures { Tells result
         (rendering_error (record { file = file.now; span = operand.now.span })) }
 {
@@ -138,14 +138,14 @@ fn no_bound(alloc: Global, file: &str, operand: &Operand) -> Error
 }
 
 /// The integer that bounds a slice, or none where the bound is none; a fault at the bound for other values.
-fn bound(alloc: Global, file: &str, operand: &Operand) -> TeraResult<Option<i128>>
+fn slice_bound(alloc: Global, file: &str, operand: &Operand) -> TeraResult<Option<i128>>
     ensures bound { Gives (λ b. b) result (bound_at file.now operand.now) }
     ensures ready { IsOk (bound_at file.now operand.now) → IsOk result }
 {
     match operand.value().shape() {
         Shape::None => Ok(None),
         Shape::Int(number) => Ok(Some(number)),
-        _ => Err(no_bound(alloc, file, operand)),
+        _ => Err(no_slice_bound(alloc, file, operand)),
     }
 }
 
@@ -167,9 +167,9 @@ pub fn slice(
     if without_parts(alloc, file, &target.lend(), optional, None)? {
         return Ok(Operand::new(Value::undefined(), span));
     }
-    let start = bound(alloc, file, start)?;
-    let end = bound(alloc, file, end)?;
-    let step = bound(alloc, file, step)?;
+    let start = slice_bound(alloc, file, start)?;
+    let end = slice_bound(alloc, file, end)?;
+    let step = slice_bound(alloc, file, step)?;
     let answer = target.value().slice(alloc, start, end, step);
     operand_or_fault(alloc, file, answer, target.span(), target.span())
 }

@@ -70,7 +70,7 @@ impl<'k> Entries<'k> {
         ensures { option_copied result ≡ find (ktext name.now) self.now }
     {
         match &self.0 {
-            Form::Listed(keys, operands) => listed_at(keys, operands.as_slice(), name),
+            Form::Listed(keys, operands) => value_at_key(keys, operands.as_slice(), name),
             Form::Made(map) => map.get_text(name),
             Form::Lent(map) => map.get_text(name),
         }
@@ -83,7 +83,7 @@ impl<'k> Entries<'k> {
         ensures among { result ≡ true → AreAmong names.now self.now }
     {
         match &self.0 {
-            Form::Listed(keys, _) => listed_named(keys, names),
+            Form::Listed(keys, _) => are_keys_named(keys, names),
             Form::Made(map) => map_named(map, names),
             Form::Lent(map) => map_named(map, names),
         }
@@ -123,7 +123,7 @@ fn is_at(key: &Option<OwnedKey>, name: &str) -> bool
 }
 
 /// The value at a text key. The last of its values counts, so they are looked at from behind.
-fn listed_at<'a>(
+fn value_at_key<'a>(
     keys: &[Option<OwnedKey>],
     operands: &'a [Operand],
     name: &str,
@@ -152,7 +152,7 @@ fn is_key_named(key: &Option<OwnedKey>, names: &Map) -> bool
 }
 
 /// Whether all keys are among the names.
-fn listed_named(keys: &[Option<OwnedKey>], names: &Map) -> bool
+fn are_keys_named(keys: &[Option<OwnedKey>], names: &Map) -> bool
     ensures { result ≡ list_all (λ k. is_key_named names.now (key_option k)) keys.now }
 {
     for key in keys {

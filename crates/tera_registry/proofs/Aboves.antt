@@ -10,7 +10,7 @@ use mathlib.Core.Path.{fun_ext}
 use Rattle.tera_errors.specs.Site.{Name}
 use Rattle.tera_syntax_tree.specs.Tree.{Signature, Nodes}
 use Rattle.tera_state.specs.Engine.{Engine}
-use Rattle.tera_meaning.specs.Registry.{Registry, LinkedBody}
+use Rattle.tera_meaning.specs.Registry.{Registry, Entry}
 use Rattle.tera_meaning.specs.Lineage.{ancestors}
 use Rattle.tera_registry.specs.declared.code.TemplateBlock.{TemplateBlock}
 use Rattle.tera_registry.specs.declared.components.Component.{Component}
@@ -32,7 +32,7 @@ consts z (x ∷ xs) (y ∷ ys) e = ap (λ l. z ∷ l) (consts z xs ys (omega (ar
 
 module _ (r : Registry) where
   -- of the blocks of a template as they are kept, and of those in its text
-  kept-block-aboves : (t : LinkedBody) (bs : List TemplateBlock) → map (λ b. b.name) bs ≡ names_of t → map (above_block r t) bs ≡ map (above_in r) (map (λ b. Some (t, b)) (blocks_of t))
+  kept-block-aboves : (t : Entry) (bs : List TemplateBlock) → map (λ b. b.name) bs ≡ names_of t → map (above_block r t) bs ≡ map (above_in r) (map (λ b. Some (t, b)) (blocks_of t))
   kept-block-aboves t bs same =
       let number = λ (m : Name). first_of (lineage r m (ancestors r t)) in
       sym (map-map number (λ (b : TemplateBlock). b.name) bs) ∙ ap (map number) same ∙ map-map number (λ (b : Name × Nodes). b.0) (blocks_of t) ∙ sym (map-map (above_in r) (λ (b : Name × Nodes). Some (t, b)) (blocks_of t))
@@ -61,7 +61,7 @@ module _ (r : Registry) where
       g ∙ ap (λ l. l ++ cs) f ∙ ap (λ l. (l ++ bs) ++ cs) e ∙ ap (λ l. l ++ cs) (append_assoc old (own ∷ []) bs) ∙ append_assoc old (own ∷ bs) cs ∙ ap (λ o. old ++ (o ∷ (bs ++ cs))) is ∙ ap (λ l. old ++ l) (kept-aboves t)
 
   -- the templates before one more position
-  pub aboves-on : (es : List LinkedBody) (i : ℕ) (t : LinkedBody) (old new : List (Option ℕ)) → slice_get es i ≡ Some t → old ≡ map (above_in r) (flat_map blocks_in (take i es)) → new ≡ old ++ map (above_in r) (blocks_in t) → new ≡ map (above_in r) (flat_map blocks_in (take (i + 1) es))
+  pub aboves-on : (es : List Entry) (i : ℕ) (t : Entry) (old new : List (Option ℕ)) → slice_get es i ≡ Some t → old ≡ map (above_in r) (flat_map blocks_in (take i es)) → new ≡ old ++ map (above_in r) (blocks_in t) → new ≡ map (above_in r) (flat_map blocks_in (take (i + 1) es))
   aboves-on es i t old new at before added =
       let rows = flat_map blocks_in (take i es) in
       added ∙ ap (λ l. l ++ map (above_in r) (blocks_in t)) before ∙ sym (map-append (above_in r) rows (blocks_in t)) ∙ ap (λ l. map (above_in r) (rows ++ l)) (sym (append-nil (blocks_in t))) ∙ ap (map (above_in r)) (sym (flat_map-append blocks_in (take i es) (t ∷ [])) ∙ ap (flat_map blocks_in) (take-more es i t at))

@@ -6,7 +6,7 @@ use Rattle.std.specs.List.{All}
 use Rattle.std.proofs.lemmas.List.Elements.{All-nil}
 use Rattle.std.proofs.lemmas.Option.{slice_get-map}
 use Rattle.tera_errors.specs.Site.{Name}
-use Rattle.tera_meaning.specs.Registry.{Registry, LinkedBody}
+use Rattle.tera_meaning.specs.Registry.{Registry, Entry}
 use Rattle.tera_meaning.specs.Resolve.{resolve}
 use Rattle.tera_registry.specs.declared.component_table.ComponentAt.{ComponentAt}
 use Rattle.tera_registry.specs.declared.code.Take.{Take}
@@ -23,11 +23,11 @@ use Rattle.tera_registry.proofs.Rows.{length-push}
 
 module _ (r : Registry) (name : Name) where
   pub place-of : (found : Option ℕ) → IsPosition r.templates found (resolve r name) → IsPlace r name found
-  place-of None is = ap (option_map (λ (t : LinkedBody). t.0)) is
+  place-of None is = ap (option_map (λ (t : Entry). t.0)) is
   place-of (Some position) is =
-      (slice_get-map (λ (t : LinkedBody). t.0) r.templates position ∙ ap (option_map (λ (t : LinkedBody). t.0)) (sym is.0), is.1)
+      (slice_get-map (λ (t : Entry). t.0) r.templates position ∙ ap (option_map (λ (t : Entry). t.0)) (sym is.0), is.1)
 
-  nowhere : (o : Option LinkedBody) → resolve r name ≡ o → option_map (λ (t : LinkedBody). t.0) o ≡ None → resolve r name ≡ None
+  nowhere : (o : Option Entry) → resolve r name ≡ o → option_map (λ (t : Entry). t.0) o ≡ None → resolve r name ≡ None
   nowhere None e none = e
   nowhere (Some t) e none = (let q : Some t.0 ≡ None = none in cc)
 

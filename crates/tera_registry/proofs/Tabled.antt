@@ -9,7 +9,7 @@ use Rattle.tera_code.specs.Listing.{Listing}
 use Rattle.tera_code.specs.Code.{listing_of}
 use Rattle.tera_code.specs.Blocks.{block_listings, block_of}
 use Rattle.tera_code.specs.declared.blocks.BlockCode.{BlockCode}
-use Rattle.tera_meaning.specs.Registry.{LinkedBody, Registry}
+use Rattle.tera_meaning.specs.Registry.{Entry, Registry}
 use Rattle.tera_meaning.specs.Resolve.{root}
 use Rattle.tera_registry.specs.declared.code.TemplateBlock.{TemplateBlock}
 use Rattle.tera_registry.specs.declared.components.Component.{Component}
@@ -56,16 +56,16 @@ template-added t old one two three body is e f g =
     let cs = map (λ c. c.code.value.chunk) t.components.items in
     g ∙ ap (λ l. l ++ cs) f ∙ ap (λ l. (l ++ bs) ++ cs) e ∙ ap (λ l. l ++ cs) (append_assoc old (body ∷ []) bs) ∙ append_assoc old (body ∷ bs) cs ∙ ap (λ b. old ++ (b ∷ (bs ++ cs))) is ∙ ap (λ l. old ++ l) (kept-codes t)
 
-flat-append : (es fs : List LinkedBody) → listings (es ++ fs) ≡ listings es ++ listings fs
+flat-append : (es fs : List Entry) → listings (es ++ fs) ≡ listings es ++ listings fs
 flat-append [] fs = refl
 flat-append (e ∷ es) fs = ap (λ l. codes_of e ++ l) (flat-append es fs) ∙ sym (append_assoc (codes_of e) (listings es) (listings fs))
 
 -- the templates before one more position
-pub listings-on : (es : List LinkedBody) (i : ℕ) (t : LinkedBody) (old new : List Listing) → slice_get es i ≡ Some t → old ≡ listings (take i es) → new ≡ old ++ codes_of t → new ≡ listings (take (i + 1) es)
+pub listings-on : (es : List Entry) (i : ℕ) (t : Entry) (old new : List Listing) → slice_get es i ≡ Some t → old ≡ listings (take i es) → new ≡ old ++ codes_of t → new ≡ listings (take (i + 1) es)
 listings-on es i t old new at before added =
     added ∙ ap (λ l. l ++ codes_of t) before ∙ ap (λ l. listings (take i es) ++ l) (sym (append-nil (codes_of t))) ∙ sym (flat-append (take i es) (t ∷ [])) ∙ ap listings (take-more es i t at)
 
-pub more-starts : (es : List LinkedBody) (starts : List ℕ) (n many : ℕ) → AreStarts es starts many → n ≡ start es many → AreStarts es (starts ++ n ∷ []) (many + 1)
+pub more-starts : (es : List Entry) (starts : List ℕ) (n many : ℕ) → AreStarts es starts many → n ≡ start es many → AreStarts es (starts ++ n ∷ []) (many + 1)
 more-starts es starts n many a is = record {
   as_many = length-push starts n ∙ ap (λ k. k + 1) a.as_many;
   those = λ i m got.
@@ -77,7 +77,7 @@ more-starts es starts n many a is = record {
 }
 
 -- the bodies of one template more are numbered
-pub start-on : (es : List LinkedBody) (i : ℕ) (t : LinkedBody) → slice_get es i ≡ Some t → start es (i + 1) ≡ start es i + length (codes_of t)
+pub start-on : (es : List Entry) (i : ℕ) (t : Entry) → slice_get es i ≡ Some t → start es (i + 1) ≡ start es i + length (codes_of t)
 start-on es i t at =
     let before = listings (take i es) in
     sym (ap length (listings-on es i t before (before ++ codes_of t) at refl refl)) ∙ length-append before (codes_of t)
@@ -96,7 +96,7 @@ get-behind (x ∷ xs) ys i =
     ap (slice_get (x ∷ (xs ++ ys))) e ∙ get-behind xs ys i)
 
 -- a body that has a number in a template has one among all
-pub listing-at : (es : List LinkedBody) (i j : ℕ) (t : LinkedBody) → slice_get es i ≡ Some t → j < length (codes_of t) → slice_get (listings es) (start es i + j) ≡ slice_get (codes_of t) j
+pub listing-at : (es : List Entry) (i j : ℕ) (t : Entry) → slice_get es i ≡ Some t → j < length (codes_of t) → slice_get (listings es) (start es i + j) ≡ slice_get (codes_of t) j
 listing-at [] i j t at lt = (let q : None ≡ Some t = at in cc)
 listing-at (u ∷ es) zero j t at lt =
     (let q : Some u ≡ Some t = at in
@@ -108,12 +108,12 @@ listing-at (u ∷ es) (suc i) j t at lt =
     ap (slice_get (codes_of u ++ listings es)) e ∙ get-behind (codes_of u) (listings es) (start es i + j) ∙ listing-at es i j t at lt)
 
 -- a template's own body
-pub own-listing : (es : List LinkedBody) (i : ℕ) (t : LinkedBody) → slice_get es i ≡ Some t → slice_get (listings es) (start es i) ≡ Some (listing_of t.0 t.1.tree.nodes)
+pub own-listing : (es : List Entry) (i : ℕ) (t : Entry) → slice_get es i ≡ Some t → slice_get (listings es) (start es i) ≡ Some (listing_of t.0 t.1.tree.nodes)
 own-listing es i t at =
     (let e : start es i ≡ start es i + 0 = omega arith in
     ap (slice_get (listings es)) e ∙ listing-at es i 0 t at (omega arith))
 
-module _ (t : LinkedBody) where
+module _ (t : Entry) where
   abbrev block_bodies : List Nodes
   block_bodies = map (λ b. b.1) (blocks t.1.tree.nodes)
 
@@ -125,7 +125,7 @@ module _ (t : LinkedBody) where
       omega (arith, length-map (t.1.tree.nodes ∷ (block_bodies ++ component_bodies)) (listing_of t.0), length-append block_bodies component_bodies, length-map (blocks t.1.tree.nodes) (λ b. b.1), length-map t.1.tree.definitions (λ d. d.1))
 
   -- one of its blocks
-  pub block-listing-at : (es : List LinkedBody) (i k : ℕ) (b : Name × Nodes) → slice_get es i ≡ Some t → slice_get (blocks t.1.tree.nodes) k ≡ Some b → slice_get (listings es) (start es i + 1 + k) ≡ Some (listing_of t.0 b.1)
+  pub block-listing-at : (es : List Entry) (i k : ℕ) (b : Name × Nodes) → slice_get es i ≡ Some t → slice_get (blocks t.1.tree.nodes) k ≡ Some b → slice_get (listings es) (start es i + 1 + k) ≡ Some (listing_of t.0 b.1)
   block-listing-at es i k b at is =
       (let there = slice_get_within (blocks t.1.tree.nodes) k b is in
       let few : suc k < length (codes_of t) = omega (arith, length-codes) in
@@ -135,7 +135,7 @@ module _ (t : LinkedBody) where
       ∙ ap (option_map (listing_of t.0)) (get-front block_bodies component_bodies k (omega (arith, length-map (blocks t.1.tree.nodes) (λ b. b.1))) ∙ slice_get-map (λ b. b.1) (blocks t.1.tree.nodes) k ∙ ap (option_map (λ b. b.1)) is))
 
   -- one of its components
-  pub component-listing-at : (es : List LinkedBody) (i k : ℕ) (d : Signature × Nodes) → slice_get es i ≡ Some t → slice_get t.1.tree.definitions k ≡ Some d → slice_get (listings es) (start es i + 1 + length (blocks t.1.tree.nodes) + k) ≡ Some (listing_of t.0 d.1)
+  pub component-listing-at : (es : List Entry) (i k : ℕ) (d : Signature × Nodes) → slice_get es i ≡ Some t → slice_get t.1.tree.definitions k ≡ Some d → slice_get (listings es) (start es i + 1 + length (blocks t.1.tree.nodes) + k) ≡ Some (listing_of t.0 d.1)
   component-listing-at es i k d at is =
       (let there = slice_get_within t.1.tree.definitions k d is in
       let n = length block_bodies + k in
@@ -180,7 +180,7 @@ module _ (entries : List Linked) (cs : List Component) (whole : map chunk_of ent
 
 -- Numbers that a template, a block or a component has.
 
-module _ (es : List LinkedBody) (starts : List ℕ) (many : ℕ) (a : AreStarts es starts many) where
+module _ (es : List Entry) (starts : List ℕ) (many : ℕ) (a : AreStarts es starts many) where
   pub start-there : (i n d : ℕ) → i < many → n ≡ get_or starts i d → n ≡ start es i
   start-there i n d lt is =
       a.those i n (slice_get-get_or starts i d (omega (arith, a.as_many)) ∙ ap Some (sym is))

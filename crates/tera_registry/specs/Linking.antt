@@ -1,7 +1,7 @@
 -- The table while it is made.
 use Rattle.std.specs.Prelude.{ℕ, List, length, Option}
 use Rattle.std.specs.List.{All}
-use Rattle.tera_meaning.specs.Registry.{Registry, LinkedBody as Meant}
+use Rattle.tera_meaning.specs.Registry.{Registry, Entry as Meant}
 use Rattle.tera_meaning.specs.Lineage.{ancestors}
 use Rattle.tera_registry.specs.declared.code.TemplateBlock.{TemplateBlock}
 use Rattle.tera_registry.specs.declared.body_table.LinkedBody.{LinkedBody}

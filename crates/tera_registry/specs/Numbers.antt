@@ -3,7 +3,7 @@ use Rattle.std.specs.Prelude.{◌≡◌, ◌+◌, ℕ, suc, true, is_some, List,
 use Rattle.std.specs.List.{filter_map, flat_map}
 use Rattle.tera_errors.specs.Site.{Name}
 use Rattle.tera_syntax_tree.specs.Tree.{Nodes}
-use Rattle.tera_meaning.specs.Registry.{LinkedBody, Registry}
+use Rattle.tera_meaning.specs.Registry.{Entry, Registry}
 use Rattle.tera_meaning.specs.Resolve.{entry_at}
 use Rattle.tera_meaning.specs.Lineage.{Definer, ancestors, definers_in}
 use Rattle.tera_registry.specs.declared.definers.BlockAt.{BlockAt}
@@ -13,21 +13,21 @@ use Rattle.tera_registry.specs.Definers.{blocks_of, names_of}
 use Rattle.tera_registry.specs.Places.{place_from}
 
 -- the number of the body of the first block of a name in the template of a name
-abbrev pub number_of : List LinkedBody → Name → Name → Option ℕ
+abbrev pub number_of : List Entry → Name → Name → Option ℕ
 number_of [] template block = None
 number_of (t ∷ ts) template block =
     if bytes_eq template t.0 then option_map suc (place_from block 0 (names_of t))
     else option_map (λ n. length (codes_of t) + n) (number_of ts template block)
 
 -- the numbers of the bodies of a block in those of these templates that define it
-abbrev pub lineage : Registry → Name → List LinkedBody → List ℕ
+abbrev pub lineage : Registry → Name → List Entry → List ℕ
 lineage r block = filter_map (λ t. number_of r.templates t.0 block)
 
 abbrev pub first_of : List ℕ → Option ℕ
 first_of [] = None
 first_of (n ∷ ns) = Some n
 
-abbrev pub lineage_from : Registry → Name → Option LinkedBody → List ℕ
+abbrev pub lineage_from : Registry → Name → Option Entry → List ℕ
 lineage_from r block None = []
 lineage_from r block (Some t) = lineage r block (t ∷ ancestors r t)
 
@@ -37,25 +37,25 @@ first_number r template block = first_of (lineage_from r block (entry_at templat
 
 -- a block with the template in whose text it stands
 abbrev pub Standing : Type 0
-Standing = LinkedBody × (Name × Nodes)
+Standing = Entry × (Name × Nodes)
 
 abbrev pub name_of : Standing → Name
 name_of p = p.1.0
 
 -- whose bodies a template has: its own, then those of its blocks, then those of its components
-abbrev pub blocks_in : LinkedBody → List (Option Standing)
+abbrev pub blocks_in : Entry → List (Option Standing)
 blocks_in t =
     None ∷ (map (λ b. Some (t, b)) (blocks_of t) ++ map (λ d. None) t.1.tree.definitions)
 
 -- the block whose body has this number
-abbrev pub block_at : List LinkedBody → ℕ → Option Standing
+abbrev pub block_at : List Entry → ℕ → Option Standing
 block_at es n = get_or (flat_map blocks_in es) n None
 
-abbrev pub IsBlock : List LinkedBody → ℕ → Type 0
+abbrev pub IsBlock : List Entry → ℕ → Type 0
 IsBlock es n = is_some (block_at es n) ≡ true
 
 -- the number of a block that stands there
-abbrev pub number_at : List LinkedBody → BlockAt → ℕ
+abbrev pub number_at : List Entry → BlockAt → ℕ
 number_at es at = start es at.template + suc at.block
 
 abbrev pub from_standing : Registry → Option Standing → List Definer

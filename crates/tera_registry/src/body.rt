@@ -72,7 +72,7 @@ impl<'t> Body<'t> {
         let link = self.link_at(at)?;
         let position = link.template()?;
         let templates: &'t Templates = self.templates;
-        Some(templates.found_at(position))
+        Some(templates.found_template_at(position))
     }
 
     /// The component that the call at this position of the code leads to, if a template defines one. Takes no memory.
@@ -84,6 +84,6 @@ impl<'t> Body<'t> {
         let link = self.link_at(at)?;
         let choice = link.component()?;
         let templates: &'t Templates = self.templates;
-        Some(templates.defined_at(choice))
+        Some(templates.definition_at(choice))
     }
 }

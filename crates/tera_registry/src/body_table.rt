@@ -3,7 +3,7 @@ ghost use Rattle.std.specs.Prelude.{◌≡◌, ◌++◌, ◌<◌, [], length, ma
 ghost use Rattle.std.specs.List.{All};
 ghost use Rattle.tera_errors.specs.Prelude.{Lacks};
 ghost use Rattle.tera_meaning.specs.Prelude.{ancestors, Registry};
-ghost use Rattle.tera_meaning.specs.Registry.{LinkedBody as Meant};
+ghost use Rattle.tera_meaning.specs.Registry.{Entry as Meant};
 ghost use Rattle.tera_registry.specs.Bodies.{codes_of, listings, AreStarts};
 ghost use Rattle.tera_registry.specs.Choices.{chosen};
 ghost use Rattle.tera_registry.specs.Definers.{Climbable};

@@ -18,7 +18,7 @@ use crate::include_edges::edges;
 use crate::roots::{Parent, parents_of_all, roots};
 use crate::template::Template;
 use crate::told_circles::fault_in_words;
-use crate::told_missing::all_missing;
+use crate::told_missing::missing_error;
 use std::alloc::Global;
 use std::collections::BTreeMap;
 use std::rc::Rc;
@@ -84,7 +84,7 @@ pub fn link<O: Objects>(
         &choices,
         objects,
     ) {
-        return Err(all_missing(
+        return Err(missing_error(
             alloc,
             templates,
             prefixes,

@@ -175,7 +175,7 @@ impl<'t> Definers<'t> {
     ghost use Rattle.tera_registry.specs.Templates.{definers_of, first_number_of, with_templates, AreNext, AreAmong};
 
     /// Nobody.
-    pub fn none() -> Definers<'t>
+    pub fn of_none() -> Definers<'t>
         ensures nobody { definers_of result ≡ [] }
         ensures number { first_number_of result ≡ None }
         ensures among { (r : Registry) → AreAmong r result }
@@ -265,7 +265,7 @@ impl Templates {
         ensures { (r : Registry) → Finds (with_templates r self.now) name.now result }
     {
         let position = resolve(self.all.as_slice(), self.prefixes.as_slice(), name)?;
-        Some(self.found_at(position))
+        Some(self.found_template_at(position))
     }
 
     // The body of this number.
@@ -301,7 +301,7 @@ impl Templates {
     }
 
     // The template at a position, to which some names resolve.
-    pub(crate) fn found_at(&self, position: usize) -> FoundTemplate<'_>
+    pub(crate) fn found_template_at(&self, position: usize) -> FoundTemplate<'_>
         requires { position < length self.now.all.items }
         ensures { (r : Registry) (name : Name)
             → IsPosition (templates_of self.now) (Some position)
@@ -338,7 +338,7 @@ impl Templates {
         ensures among { (r : Registry) → with_templates r self.now ≡ r → AreAmong r result }
     {
         match number {
-            None => Definers::none(),
+            None => Definers::of_none(),
             Some(number) => Definers {
                 start: Some(Start {
                     templates: self,
@@ -377,11 +377,11 @@ impl Templates {
             (component (with_templates r self.now) name.now) result }
     {
         let choice = self.choices.get(name)?;
-        Some(self.defined_at(*choice))
+        Some(self.definition_at(*choice))
     }
 
     // The component of which this is taken.
-    pub(crate) fn defined_at(&self, choice: ComponentAt) -> Defined<'_>
+    pub(crate) fn definition_at(&self, choice: ComponentAt) -> Defined<'_>
         requires { IsTaken self.now.choices choice }
         ensures templates { result.body.templates.now ≡ self.now }
         ensures defined { (r : Registry) (name : Name) → chosen self.now.choices name ≡ Some choice

@@ -24,7 +24,7 @@ use crate::missing_callees::{any_has_missing_callee, code_has_missing_callee};
 use crate::places::component_places;
 use crate::templates::{Defined, Templates};
 use crate::text_components::TextComponents;
-use crate::told_missing::{Inventory, NamedText, all_missing_beside};
+use crate::told_missing::{Inventory, NamedText, missing_error_of_text};
 use std::alloc::Global;
 use std::collections::BTreeMap;
 use tera_code::Chunk;
@@ -123,7 +123,7 @@ impl<'t> TextTable<'t> {
 
     /// One refusal that names all that it calls and includes and that is not there.
     #[inline(never)]
-    pub fn all_missing<'x, O: Objects>(
+    pub fn missing_error<'x, O: Objects>(
         &'x self,
         file: &'x str,
         source: &'x str,
@@ -143,6 +143,6 @@ impl<'t> TextTable<'t> {
             objects,
         };
         let code: &Code = &self.body.code;
-        all_missing_beside(there, NamedText { file, source }, &code.chunk)
+        missing_error_of_text(there, NamedText { file, source }, &code.chunk)
     }
 }

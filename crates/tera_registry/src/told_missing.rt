@@ -63,7 +63,7 @@ struct Missing {
 
 /// One refusal that names all that is not there, by template.
 #[inline(never)]
-pub(crate) fn all_missing<'a, O: Objects>(
+pub(crate) fn missing_error<'a, O: Objects>(
     alloc: Global,
     templates: &'a [Rc<Template>],
     prefixes: &'a [String],
@@ -94,7 +94,7 @@ pub(crate) fn all_missing<'a, O: Objects>(
 }
 
 /// The same of a text beside the templates.
-pub(crate) fn all_missing_beside<O: Objects>(
+pub(crate) fn missing_error_of_text<O: Objects>(
     there: Inventory<'_, O>,
     text: NamedText<'_>,
     body: &Chunk,

@@ -1,6 +1,6 @@
 // The bodies of commands.
 ghost use Rattle.std.specs.Prelude.{◌≡◌, MatchOption, None};
-ghost use Rattle.tera_run_script.specs.CommandBody.{Ended, IsBody};
+ghost use Rattle.tera_run_script.specs.Body.{Ended, IsBody};
 ghost use Rattle.tera_run_script.specs.Lines.{lines_of};
 ghost use Rattle.tera_run_script.specs.Script.{body_lines};
 

@@ -129,5 +129,5 @@ module _ (look_up : Name → Val) where
   map_of ns h = record { finds = λ n. among n ns ∙ covered n (is_among n ns) (h n); ascends = ascending ns }
 
 pub state_names : StateNamesAreAMap
-state_names (Alone context) = map_of (look_in_source (Alone context)) (names_in context.now) (λ n h. ap (λ o. unwrap_or o undefined) (unbound n context.now h))
-state_names (Open scopes) = map_of (look_in_source (Open scopes)) (bound_names (around_of scopes.now) (variables_of scopes.now)) (λ n. looked_nowhere n (around_of scopes.now) (variables_of scopes.now))
+state_names (Context context) = map_of (look_in_source (Context context)) (names_in context.now) (λ n h. ap (λ o. unwrap_or o undefined) (unbound n context.now h))
+state_names (Scopes scopes) = map_of (look_in_source (Scopes scopes)) (bound_names (around_of scopes.now) (variables_of scopes.now)) (λ n. looked_nowhere n (around_of scopes.now) (variables_of scopes.now))

@@ -49,14 +49,14 @@ filters_left (Some taken) name = if list_any (bytes_eq name) taken then None els
 
 -- what a name stands for in a context alone, or in the scopes of a rendering
 abbrev pub look_in_source : StateSource → Name → Val
-look_in_source (Alone context) name = unwrap_or (at_name name context.now) undefined
-look_in_source (Open scopes) name = look name (around_of scopes.now) (variables_of scopes.now)
+look_in_source (Context context) name = unwrap_or (at_name name context.now) undefined
+look_in_source (Scopes scopes) name = look name (around_of scopes.now) (variables_of scopes.now)
 
 -- the names that are found there, each with its value
 abbrev pub names_in_source : StateSource → Named Val
-names_in_source (Alone context) =
-    found_among (look_in_source (Alone context)) (names_in context.now)
-names_in_source (Open scopes) = found_names (around_of scopes.now) (variables_of scopes.now)
+names_in_source (Context context) =
+    found_among (look_in_source (Context context)) (names_in context.now)
+names_in_source (Scopes scopes) = found_names (around_of scopes.now) (variables_of scopes.now)
 
 -- what a state finds by name is a finite map
 abbrev pub StateNamesAreAMap : Type 0

@@ -4,16 +4,16 @@ mod built_in_kinds;
 mod caller_calls;
 pub mod caller_objects;
 pub mod filters;
+pub mod interface;
 pub mod laws;
 pub mod object_call;
-pub mod objects;
 mod safe_answers;
 pub mod stored;
 pub mod table;
 
 pub use caller_objects::{CallerObjects, ObjectsOver};
 pub use filters::OwnFilters;
+pub use interface::Objects;
 pub use object_call::ObjectCall;
-pub use objects::Objects;
 pub use stored::{Stored, StoredFilter, StoredFunction, StoredTest};
 pub use table::{BuiltInKind, ObjectTable};

@@ -44,12 +44,12 @@ fn look_in_variables<'a>(
         ≡ in_variables name.now (variables_at bindings.now frame body.now) }
 {
     match body.loops.look(bindings, frame, name) {
-        FoundValue::Unbound => found_from(bindings.get(frame, 0, name)),
+        FoundValue::Unbound => found_value_of(bindings.get(frame, 0, name)),
         found => found,
     }
 }
 
-fn found_from<'a>(value: Option<&'a Value>) -> FoundValue<'a>
+fn found_value_of<'a>(value: Option<&'a Value>) -> FoundValue<'a>
     ensures { found_value result ≡ option_copied value.entry }
 {
     match value {
@@ -111,7 +111,7 @@ impl<'c> Scopes<'c> {
     {
         if self.bindings.is_empty() && self.frame.loops.len() <= 1 {
             if let FrameKind::Template(contexts) = &self.frame.standing {
-                return found_from(contexts.get(name));
+                return found_value_of(contexts.get(name));
             }
         }
         self.look_in_frame(height, &self.frame, name)
@@ -148,8 +148,8 @@ impl<'c> Scopes<'c> {
     {
         match look_in_variables(&self.bindings, height, body, name) {
             FoundValue::Unbound => match &body.standing {
-                FrameKind::Template(contexts) => Some(found_from(contexts.get(name))),
-                FrameKind::Component(arguments) => Some(found_from(arguments.look(name))),
+                FrameKind::Template(contexts) => Some(found_value_of(contexts.get(name))),
+                FrameKind::Component(arguments) => Some(found_value_of(arguments.look(name))),
                 FrameKind::Include => None,
             },
             found => Some(found),
@@ -168,7 +168,7 @@ impl<'c> Scopes<'c> {
             let includer = self.below.at_height(left);
             if let Some(found) = self.look_in_own_frame(left, includer, name) {
                 if found.is_undefined() {
-                    return found_from(self.context_at(left, includer).get(name));
+                    return found_value_of(self.context_at(left, includer).get(name));
                 }
                 return found;
             }

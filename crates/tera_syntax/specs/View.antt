@@ -58,7 +58,7 @@ statement_of f =
 abbrev pub statements_of : List statement.OpenStatement → List OpenStatement
 statements_of fs = map statement_of (reverse fs)
 
-abbrev pub progress_of : progress.Progress → Progress
+abbrev pub progress_of : progress.OpenStatements → Progress
 progress_of s =
     record {
       statements = statements_of s.statements.items;
@@ -97,7 +97,7 @@ Gathers more old (Ok done) new = names_of new ≡ names_of old ++ more
 Gathers more old (Err refusal) new = refusal ≡ OutOfMemory
 
 -- What is read becomes what is meant. After a refusal nothing is said of it.
-abbrev pub Becomes : Option Progress → Result (Unit {0}) Refusal → progress.Progress → Type 0
+abbrev pub Becomes : Option Progress → Result (Unit {0}) Refusal → progress.OpenStatements → Type 0
 Becomes meant (Ok done) new = meant ≡ Some (progress_of new)
 Becomes meant (Err refusal) new = Refuses meant refusal
 

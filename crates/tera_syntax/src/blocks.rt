@@ -137,7 +137,7 @@ fn first_repeat_in_few(names: &[PlacedName<'_>]) -> Option<Span>
     ensures { result ≡ again (names_of names.now) }
 {
     for at in 0..names.len() {
-        let next = first_at(names[at].name, &names[at + 1..]);
+        let next = first_span_of(names[at].name, &names[at + 1..]);
         if next.is_some() {
             return next;
         }
@@ -146,7 +146,7 @@ fn first_repeat_in_few(names: &[PlacedName<'_>]) -> Option<Span>
 }
 
 /// Where this name stands first.
-fn first_at(name: &str, names: &[PlacedName<'_>]) -> Option<Span>
+fn first_span_of(name: &str, names: &[PlacedName<'_>]) -> Option<Span>
     ensures { result ≡ first_at name.now (names_of names.now) }
 {
     for placed in names {

@@ -142,7 +142,7 @@ refused (Syntax why position) f h = f h
 refused OutOfMemory f h = tt
 
 -- rows of entries
-pub entries_of-push : (all : List entry.Entry) (i : entry.Entry) → entries_of (all ++ i ∷ []) ≡ join_entries (entries_of all) (one_entry (literal_option i.key) (expr_of i.value))
+pub entries_of-push : (all : List entry.EntryExpression) (i : entry.EntryExpression) → entries_of (all ++ i ∷ []) ≡ join_entries (entries_of all) (one_entry (literal_option i.key) (expr_of i.value))
 entries_of-push [] i = refl
 entries_of-push (j ∷ all) i = ap (MoreEntries (literal_option j.key) (expr_of j.value)) (entries_of-push all i)
 

@@ -30,11 +30,11 @@ use Rattle.std.specs.Ordering.{match_ordering}
 use Rattle.tera_syntax_expressions.specs.Arguments.{name_cmp}
 use Rattle.tera_syntax_expressions.specs.Expressions.{Deep, expr, join_items, one_item, join_entries, one_entry}
 
-abbrev pub deep_of : declared.Deep → Deep
+abbrev pub deep_of : declared.ReadExpression → Deep
 deep_of x = record { expr = expr_of x.expression; depth = x.depth }
 
 -- an operand was taken out of its place, where a leaf stands
-abbrev pub IsEmptied : declared.Deep → Type 0
+abbrev pub IsEmptied : declared.ReadExpression → Type 0
 IsEmptied x = expr_of x.expression ≡ Nothing (record { start = 0; end = 0 })
 
 abbrev pub part_of : OptionalPart → Optional × ℕ
@@ -54,11 +54,11 @@ infix_of (form.Binary operator) = Binary operator
 
 -- a function value that reads expressions to a depth
 pub record Nests (limit : ℕ) (pre : Global → MutBor Tokens → ℕ → ℕ → Type 0)
-    (post : Global → MutBor Tokens → ℕ → ℕ → Result declared.Deep Refusal → MutBor Tokens
+    (post : Global → MutBor Tokens → ℕ → ℕ → Result declared.ReadExpression Refusal → MutBor Tokens
     → Type 0) : Type 0 where
   pub callable : (alloc : Global) (old : MutBor Tokens) (floor : ℕ) → pre alloc old limit floor
   pub reads : (alloc : Global) (old new : MutBor Tokens) (floor : ℕ)
-      (r : Result declared.Deep Refusal) → post alloc old limit floor r new
+      (r : Result declared.ReadExpression Refusal) → post alloc old limit floor r new
       → Takes deep_of (expr limit floor (input old.now)) r new.now
 
 -- What a rule gives was read, seen by view: a rule is given how deep a form may be, and what reads
@@ -71,7 +71,7 @@ Follows view rule reader old r new =
 -- the same of a rule that goes on from an operand, which starts at a position: the form that is made
 -- of it stands in its place
 abbrev pub GoesOn : {D F : Type 0} → (ℕ → (ℕ → Parser Deep) → ℕ → Deep → Parser Deep) → Reader F
-    → ℕ → declared.Deep → declared.Deep → Tokens → Result D Refusal → Tokens → Type 0
+    → ℕ → declared.ReadExpression → declared.ReadExpression → Tokens → Result D Refusal → Tokens → Type 0
 GoesOn rule reader start before x old r new =
     Takes (λ done. deep_of x)
     (rule reader.limit (expr reader.below) start (deep_of before) (input old)) r new
@@ -100,7 +100,7 @@ TakesItem meant is_spread old items (Ok d) new =
 TakesItem meant is_spread old items (Err refusal) new = Refuses meant refusal
 
 -- an entry was read behind those that were there, and its depth is the answer
-abbrev pub TakesEntry : Parsed (Option Key) → Parser Deep → List entry.Entry → List entry.Entry
+abbrev pub TakesEntry : Parsed (Option Key) → Parser Deep → List entry.EntryExpression → List entry.EntryExpression
     → Result ℕ Refusal → Tokens → Type 0
 TakesEntry meant sub old entries (Ok d) new =
     (key : Option Key) × (j : Input) × (x : Deep) × (meant ≡ Some (key, j))

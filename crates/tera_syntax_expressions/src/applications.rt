@@ -75,7 +75,7 @@ impl<'s, F: Fn(Global, &mut Tokens<'_, 's>, usize, u8) -> Read<'s>> Reader<F> {
 
     /// The arguments behind a name, if they are written, and the greatest depth.
     #[inline(always)]
-    #[tactic(auto, unfolding(crate::specs::Expressions::given))]
+    #[tactic(auto, unfolding(crate::specs::Expressions::optional_arguments))]
     pub(crate) fn optional_arguments(&self, tokens: &mut Tokens<'_, 's>) -> ReadRow<Argument<'s>>
         requires { Nests self.now.below (F.pre self.now.expr) (F.post self.now.expr) }
         ensures { Follows (λ p. (arguments_of p.0.items, p.1)) spec.optional_arguments self.now

@@ -80,7 +80,7 @@ impl<'s, F: Fn(Global, &mut Tokens<'_, 's>, usize, u8) -> Read<'s>> Reader<F> {
 
     /// What the next token goes on to.
     #[inline(always)]
-    #[tactic(auto, unfolding(crate::specs::Expressions::operation, crate::specs::Expressions::applied, crate::specs::Expressions::suffixed))]
+    #[tactic(auto, unfolding(crate::specs::Expressions::operation, crate::specs::Expressions::applied, crate::specs::Expressions::suffix_form))]
     fn operation(
         &self,
         tokens: &mut Tokens<'_, 's>,
@@ -116,7 +116,7 @@ impl<'s, F: Fn(Global, &mut Tokens<'_, 's>, usize, u8) -> Read<'s>> Reader<F> {
     /// What stands behind an operand and is no sign between two. It has a function of its own, so that no room for its
     /// answers is made ready at each sign.
     #[inline(never)]
-    #[tactic(auto, unfolding(crate::specs::Expressions::suffixed))]
+    #[tactic(auto, unfolding(crate::specs::Expressions::suffix_form))]
     fn suffix_form(
         &self,
         tokens: &mut Tokens<'_, 's>,
@@ -128,7 +128,7 @@ impl<'s, F: Fn(Global, &mut Tokens<'_, 's>, usize, u8) -> Read<'s>> Reader<F> {
     {
         match tokens.kind() {
             Kind::If => self.choice(tokens, start, x),
-            Kind::Not => self.not_in(tokens, start, x),
+            Kind::Not => self.not_in_form(tokens, start, x),
             Kind::Is => self.test(tokens, start, x),
             Kind::Bar => self.filter(tokens, start, x),
             Kind::Dot => self.attribute(tokens, Access::new(start, false), x),

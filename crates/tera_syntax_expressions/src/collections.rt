@@ -21,7 +21,7 @@ use tera_syntax_tree::{EntryExpression, Expression, Item, LiteralKey};
 impl<'s, F: Fn(Global, &mut Tokens<'_, 's>, usize, u8) -> Read<'s>> Reader<F> {
     /// What stands behind a bracket: an array, or a comprehension where `for` follows the first expression.
     #[inline(never)]
-    #[tactic(auto, unfolding(crate::specs::Expressions::bracketed))]
+    #[tactic(auto, unfolding(crate::specs::Expressions::brackets))]
     pub(crate) fn brackets(&self, tokens: &mut Tokens<'_, 's>, start: usize) -> Read<'s>
         requires { Nests self.now.below (F.pre self.now.expr) (F.post self.now.expr) }
         ensures { let meant = spec.brackets self.now.limit (spec.expr self.now.below) start in
@@ -69,7 +69,7 @@ impl<'s, F: Fn(Global, &mut Tokens<'_, 's>, usize, u8) -> Read<'s>> Reader<F> {
 
     /// All items, from behind the first, and the greatest depth.
     #[inline(always)]
-    #[tactic(auto, unfolding(crate::specs::Expressions::items_behind))]
+    #[tactic(auto, unfolding(crate::specs::Expressions::items_after_first))]
     pub(crate) fn items_after_first(
         &self,
         tokens: &mut Tokens<'_, 's>,

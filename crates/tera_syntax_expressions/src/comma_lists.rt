@@ -34,7 +34,7 @@ pub(crate) use between_commas;
 
 /// Takes the comma behind a part, and otherwise what closes: whether it was a comma.
 #[inline(always)]
-#[tactic(auto, unfolding(crate::specs::Commas::comma_or))]
+#[tactic(auto, unfolding(crate::specs::CommaLists::comma_or))]
 pub(crate) fn take_comma(tokens: &mut Tokens<'_, '_>, closing: Kind) -> Result<bool, Refusal>
     ensures { Takes (λ more. more) (comma_or closing (input tokens.old)) result tokens.new }
 {

@@ -167,7 +167,7 @@ fn plain_literal<'s>(alloc: Global, tokens: &mut Tokens<'_, 's>) -> Result<Liter
     ensures { let i = input tokens.old in
         Takes written_of (spec.literal_at (spec.plain_at i) i) result tokens.new }
 {
-    match plain_at(alloc, tokens)? {
+    match plain_literal_at(alloc, tokens)? {
         Some(value) => {
             tokens.take();
             Ok(value)
@@ -178,7 +178,10 @@ fn plain_literal<'s>(alloc: Global, tokens: &mut Tokens<'_, 's>) -> Result<Liter
 
 /// The constant, integer or text that the next token is.
 #[tactic(auto, unfolding(crate::specs::Literals::plain_at))]
-fn plain_at<'s>(alloc: Global, tokens: &Tokens<'_, 's>) -> Result<Option<Literal<'s>>, AllocError>
+fn plain_literal_at<'s>(
+    alloc: Global,
+    tokens: &Tokens<'_, 's>,
+) -> Result<Option<Literal<'s>>, AllocError>
     ensures { IfOk result (λ o. written_option o ≡ spec.plain_at (input tokens.now)) }
 {
     match tokens.kind() {

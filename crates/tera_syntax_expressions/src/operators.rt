@@ -18,7 +18,7 @@ use tera_syntax_tree::{BinaryOperator, Choice, Expression, Operands};
 impl<'s, F: Fn(Global, &mut Tokens<'_, 's>, usize, u8) -> Read<'s>> Reader<F> {
     /// `-x` or `not x`, where the operand is of this level or above.
     #[inline(never)]
-    #[tactic(auto, unfolding(crate::specs::Expressions::prefixed))]
+    #[tactic(auto, unfolding(crate::specs::Expressions::prefix_form))]
     pub(crate) fn prefix_form(&self, tokens: &mut Tokens<'_, 's>, level: u8, op: Prefix) -> Read<'s>
         requires { Nests self.now.below (F.pre self.now.expr) (F.post self.now.expr) }
         ensures { let meant = spec.prefix_form self.now.limit (spec.expr self.now.below) level in
@@ -34,7 +34,7 @@ impl<'s, F: Fn(Global, &mut Tokens<'_, 's>, usize, u8) -> Read<'s>> Reader<F> {
 
     /// An operator and what stands behind it, of this level or above.
     #[inline(never)]
-    #[tactic(auto, unfolding(crate::specs::Expressions::infixed))]
+    #[tactic(auto, unfolding(crate::specs::Expressions::infix_form))]
     pub(crate) fn infix_form(
         &self,
         tokens: &mut Tokens<'_, 's>,
@@ -64,7 +64,7 @@ impl<'s, F: Fn(Global, &mut Tokens<'_, 's>, usize, u8) -> Read<'s>> Reader<F> {
     /// `x not in y`
     #[inline(never)]
     #[tactic(auto, unfolding(crate::specs::Expressions::not_in, crate::specs::Expressions::applied))]
-    pub(crate) fn not_in(
+    pub(crate) fn not_in_form(
         &self,
         tokens: &mut Tokens<'_, 's>,
         start: usize,

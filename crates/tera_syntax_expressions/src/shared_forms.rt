@@ -34,7 +34,7 @@ impl<'s, F: Fn(Global, &mut Tokens<'_, 's>, usize, u8) -> Read<'s>> Reader<F> {
 
     /// What a name and arguments make of a value, from the name on.
     #[inline(always)]
-    #[tactic(auto, unfolding(crate::specs::Expressions::passed))]
+    #[tactic(auto, unfolding(crate::specs::Expressions::application))]
     pub(crate) fn application(
         &self,
         tokens: &mut Tokens<'_, 's>,

@@ -15,7 +15,7 @@ ghost use Rattle.tera_syntax_tokens.specs.declared.refusal.Refusal.TheVariants.{
 ghost use Rattle.tera_syntax_tokens.specs.declared.token.Token.{Token};
 
 use crate::bytes::{begins, bytes_from, bytes_to, position as position_of, position_of_byte};
-use crate::raw::raw;
+use crate::raw::raw_piece;
 use crate::refusal::{Reason, Refusal};
 use crate::tag_tokens::{cut_inside, is_hyphen};
 use crate::token::Token;
@@ -307,7 +307,7 @@ pub fn is_alone(word: &str, tokens: &[Token<'_>]) -> bool
     }
 }
 
-/// What is left of a block behind its start delimiter; `raw` takes the text up to its end along.
+/// What is left of a block behind its start delimiter; `raw_piece` takes the text up to its end along.
 fn block<'a>(
     tokens: &mut Vec<Token<'a>>,
     delimiters: &Delimiters,
@@ -325,7 +325,7 @@ fn block<'a>(
 {
     let x = cut_inside(tokens, text, delimiters.block_end.as_str(), at)?;
     if is_alone("raw", tokens.as_slice()) {
-        return raw(delimiters, x.rest, x.next, x.trims);
+        return raw_piece(delimiters, x.rest, x.next, x.trims);
     }
     Ok(FoundPiece {
         piece: Piece::Block,

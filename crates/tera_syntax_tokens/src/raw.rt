@@ -117,7 +117,7 @@ fn next_endraw(delimiters: &Delimiters, text: &[u8]) -> usize
 }
 
 /// What the tag `raw` gives, by the text behind it.
-pub(crate) fn raw<'a>(
+pub(crate) fn raw_piece<'a>(
     delimiters: &Delimiters,
     text: &'a str,
     at: usize,

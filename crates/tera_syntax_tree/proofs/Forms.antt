@@ -6,7 +6,7 @@ use Rattle.tera_syntax_tree.specs.declared.expression.Item.{Item}
 use Rattle.tera_syntax_tree.specs.declared.expression.EntryExpression.{EntryExpression}
 use Rattle.tera_syntax_tree.specs.declared.expression.Argument.{Argument}
 use Rattle.tera_syntax_tree.specs.declared.expression.Applied.{Applied}
-use Rattle.tera_syntax_tree.specs.declared.expression.FunctionCall.{FunctionCall, out-Called}
+use Rattle.tera_syntax_tree.specs.declared.expression.FunctionCall.{FunctionCall, out-FunctionCall}
 use Rattle.tera_syntax_tree.specs.declared.expression.Collected.{Collected}
 use Rattle.tera_syntax_tree.specs.declared.expression.ComponentTag.{ComponentTag, out-ComponentTag}
 use Rattle.tera_syntax_tree.specs.declared.expression.BinaryOperator.{BinaryOperator}
@@ -42,7 +42,7 @@ pub super : (e : Expression) (arguments : Vec Argument Global) (span : Span) (xs
 super e arguments span xs is a =
     ap (λ x. arguments_free (arguments_of x)) a ∙ sym (ap expr_free (ap expr_of is ∙ view_super arguments span))
 
-pub call : (e : Expression) (called : Box FunctionCall Global) (span : Span) (xs : List Argument) → e ≡ expression.Call called span → xs ≡ (out-Called called.value).arguments.items → arguments_free (arguments_of xs) ≡ expr_free (expr_of e)
+pub call : (e : Expression) (called : Box FunctionCall Global) (span : Span) (xs : List Argument) → e ≡ expression.Call called span → xs ≡ (out-FunctionCall called.value).arguments.items → arguments_free (arguments_of xs) ≡ expr_free (expr_of e)
 call e called span xs is a =
     ap (λ x. arguments_free (arguments_of x)) a ∙ sym (ap expr_free (ap expr_of is ∙ view_call called span))
 

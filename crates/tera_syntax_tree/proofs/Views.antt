@@ -6,12 +6,12 @@ use Rattle.tera_syntax_tree.specs.declared.expression.Heading.{Heading}
 use Rattle.tera_syntax_tree.specs.declared.expression.Sliced.{Sliced}
 use Rattle.tera_syntax_tree.specs.declared.expression.Collected.{Collected}
 use Rattle.tera_syntax_tree.specs.declared.expression.Applied.{Applied, Applied', out-Applied}
-use Rattle.tera_syntax_tree.specs.declared.expression.FunctionCall.{FunctionCall, FunctionCall', out-Called}
+use Rattle.tera_syntax_tree.specs.declared.expression.FunctionCall.{FunctionCall, FunctionCall', out-FunctionCall}
 use Rattle.tera_syntax_tree.specs.declared.expression.ComponentTag.{ComponentTag, ComponentTag', out-ComponentTag}
 use Rattle.tera_syntax_tree.specs.declared.expression.Item as item
 use Rattle.tera_syntax_tree.specs.declared.expression.EntryExpression as entry
 use Rattle.tera_syntax_tree.specs.declared.expression.Argument as argument
-use Rattle.tera_syntax_tree.specs.declared.expression.Expression.{Expression, Row_of-Item, end_of-Item, more_of-Item, items-the_row-Item, items_hidden-the_row-Item-0, Row_of-Entry, end_of-Entry, more_of-Entry, items-the_row-Entry, items_hidden-the_row-Entry-1, Row_of-Argument, end_of-Argument, more_of-Argument, items-the_row-Argument, items_hidden-the_row-Argument-2, items_shown-the_row-Argument-2, items_shown-the_row-Entry-1}
+use Rattle.tera_syntax_tree.specs.declared.expression.Expression.{Expression, Row_of-Item, end_of-Item, more_of-Item, items-the_row-Item, items_hidden-the_row-Item-0, Row_of-EntryExpression, end_of-EntryExpression, more_of-EntryExpression, items-the_row-EntryExpression, items_hidden-the_row-EntryExpression-1, Row_of-Argument, end_of-Argument, more_of-Argument, items-the_row-Argument, items_hidden-the_row-Argument-2, items_shown-the_row-Argument-2, items_shown-the_row-EntryExpression-1}
 use Rattle.tera_syntax_tree.specs.declared.expression.Expression.TheVariants as expression
 use Rattle.tera_syntax_tree.specs.declared.component.Literal.{Row_of-Literal, end_of-Literal, more_of-Literal, items-the_row-Literal, items_hidden-the_row-Literal-0, Row_of-LiteralEntry, end_of-LiteralEntry, more_of-LiteralEntry, items-the_row-LiteralEntry, items_hidden-the_row-LiteralEntry-1}
 use Rattle.tera_syntax_tree.specs.declared.component.Literal as declared_literal
@@ -30,9 +30,9 @@ pub items_row : (m : _) (row : Row_of-Item m) → row_items row ≡ items_of (it
 items_row m end_of-Item = refl
 items_row m (more_of-Item s e rest) = ap (λ r. MoreItems s (expr_of e) r) (items_row _ rest)
 
-pub entries_row : (m : _) (row : Row_of-Entry m) → row_entries row ≡ entries_of (items-the_row-Entry m row)
-entries_row m end_of-Entry = refl
-entries_row m (more_of-Entry k e rest) = ap (λ r. MoreEntries (literal_option k) (expr_of e) r) (entries_row _ rest)
+pub entries_row : (m : _) (row : Row_of-EntryExpression m) → row_entries row ≡ entries_of (items-the_row-EntryExpression m row)
+entries_row m end_of-EntryExpression = refl
+entries_row m (more_of-EntryExpression k e rest) = ap (λ r. MoreEntries (literal_option k) (expr_of e) r) (entries_row _ rest)
 
 pub arguments_row : (m : _) (row : Row_of-Argument m) → row_arguments row ≡ arguments_of (items-the_row-Argument m row)
 arguments_row m end_of-Argument = refl
@@ -62,10 +62,10 @@ abbrev items_in : Expression → (n : Count) × Row_of-Item n
 items_in (expression.Array' _ row _) = (_, row)
 items_in _ = (_, end_of-Item)
 
-abbrev entries_in : Expression → (n : Count) × Row_of-Entry n
+abbrev entries_in : Expression → (n : Count) × Row_of-EntryExpression n
 entries_in (expression.Map' _ row _) = (_, row)
 entries_in (expression.Component' _ (ComponentTag' _ _ row) _) = (_, row)
-entries_in _ = (_, end_of-Entry)
+entries_in _ = (_, end_of-EntryExpression)
 
 abbrev arguments_in : Expression → (n : Count) × Row_of-Argument n
 arguments_in (expression.Super' _ row _) = (_, row)
@@ -96,10 +96,10 @@ view_array all span =
     let r = items_in (expression.Array all span) in
     ap (λ x. Array x span) (items_row r.0 r.1 ∙ ap items_of (items_hidden-the_row-Item-0 all))
 
-pub view_map : (all : Vec entry.Entry Global) (span : Span) → expr_of (expression.Map all span) ≡ Map (entries_of all.items) span
+pub view_map : (all : Vec entry.EntryExpression Global) (span : Span) → expr_of (expression.Map all span) ≡ Map (entries_of all.items) span
 view_map all span =
     let r = entries_in (expression.Map all span) in
-    ap (λ x. Map x span) (entries_row r.0 r.1 ∙ ap entries_of (items_hidden-the_row-Entry-1 all))
+    ap (λ x. Map x span) (entries_row r.0 r.1 ∙ ap entries_of (items_hidden-the_row-EntryExpression-1 all))
 
 pub view_super : (all : Vec argument.Argument Global) (span : Span) → expr_of (expression.Super all span) ≡ Super (arguments_of all.items) span
 view_super all span =
@@ -120,14 +120,14 @@ view_test a span = elim a.value as (λ x. expr_of (expression.Test (record { ptr
     [ Applied' e t m all ↦ ap (λ y. Test (expr_of e) t.now y span) (arguments_are _ all _ (items_shown-the_row-Argument-2 m all)) ]
 
 pub view_call : (c : Box FunctionCall Global) (span : Span) → expr_of (expression.Call c span) ≡ called_of c.value span
-unfolding out-Called denote.Hole.Carrier.out
+unfolding out-FunctionCall denote.Hole.Carrier.out
 view_call c span = elim c.value as (λ x. expr_of (expression.Call (record { ptr = c.ptr; alloc = c.alloc; value = x }) span) ≡ called_of x span)
     [ FunctionCall' t m all ↦ ap (λ y. Call t.now y span) (arguments_are _ all _ (items_shown-the_row-Argument-2 m all)) ]
 
 pub view_component : (t : Box ComponentTag Global) (span : Span) → expr_of (expression.Component t span) ≡ tag_of t.value span
 unfolding out-ComponentTag denote.Hole.Carrier.out
 view_component t span = elim t.value as (λ x. expr_of (expression.Component (record { ptr = t.ptr; alloc = t.alloc; value = x }) span) ≡ tag_of x span)
-    [ ComponentTag' n m all ↦ ap (λ y. Component n.now y span) (entries_row _ all ∙ ap entries_of (sym (items_shown-the_row-Entry-1 m all))) ]
+    [ ComponentTag' n m all ↦ ap (λ y. Component n.now y span) (entries_row _ all ∙ ap entries_of (sym (items_shown-the_row-EntryExpression-1 m all))) ]
 
 pub view_comprehension : (c : Box Collected Global) (span : Span) → expr_of (expression.Comprehension c span) ≡ comprehension_of c.value span
 view_comprehension c span =

@@ -1,7 +1,7 @@
 -- The plain data that a tree in memory stands for.
 use Rattle.std.specs.Prelude.{List, [], ◌∷◌, Bool, Option, Some, None, string_bytes, option_copied, option_map, Box, map as map_list}
 use Rattle.std.specs.Global.{Global}
-use Rattle.tera_syntax_tree.specs.declared.expression.Expression.{Expression, Row_of-Item, end_of-Item, more_of-Item, Row_of-Entry, end_of-Entry, more_of-Entry, Row_of-Argument, end_of-Argument, more_of-Argument, Held-Bounds-start, Bounds-start-None', Some'}
+use Rattle.tera_syntax_tree.specs.declared.expression.Expression.{Expression, Row_of-Item, end_of-Item, more_of-Item, Row_of-EntryExpression, end_of-EntryExpression, more_of-EntryExpression, Row_of-Argument, end_of-Argument, more_of-Argument, Held-Bounds-start, Bounds-start-None', Some'}
 use Rattle.tera_syntax_tree.specs.declared.expression.Expression.TheVariants as expression
 use Rattle.tera_errors.specs.Site as site
 use Rattle.tera_errors.specs.declared.span.Span.{Span}
@@ -9,7 +9,7 @@ use Rattle.tera_syntax_tree.specs.declared.expression.Sliced.{Sliced}
 use Rattle.tera_syntax_tree.specs.declared.expression.Heading.{Heading}
 use Rattle.tera_syntax_tree.specs.declared.expression.Collected.{Collected}
 use Rattle.tera_syntax_tree.specs.declared.expression.Applied.{Applied, Applied', out-Applied}
-use Rattle.tera_syntax_tree.specs.declared.expression.FunctionCall.{FunctionCall, FunctionCall', out-Called}
+use Rattle.tera_syntax_tree.specs.declared.expression.FunctionCall.{FunctionCall, FunctionCall', out-FunctionCall}
 use Rattle.tera_syntax_tree.specs.declared.expression.ComponentTag.{ComponentTag, ComponentTag', out-ComponentTag}
 use Rattle.tera_syntax_tree.specs.declared.expression.LiteralKey.{LiteralKey}
 use Rattle.tera_syntax_tree.specs.declared.expression.LiteralKey.TheVariants as key
@@ -100,9 +100,9 @@ abbrev mutual
   row_items end_of-Item = NoItems
   row_items (more_of-Item b e rest) = MoreItems b (expr_of e) (row_items rest)
 
-  pub row_entries : {m : _} → Row_of-Entry m → Entries
-  row_entries end_of-Entry = NoEntries
-  row_entries (more_of-Entry k e rest) =
+  pub row_entries : {m : _} → Row_of-EntryExpression m → Entries
+  row_entries end_of-EntryExpression = NoEntries
+  row_entries (more_of-EntryExpression k e rest) =
       MoreEntries (literal_option k) (expr_of e) (row_entries rest)
 
   pub row_arguments : {m : _} → Row_of-Argument m → Arguments
@@ -129,7 +129,7 @@ abbrev pub items_of : List item.Item → Items
 items_of [] = NoItems
 items_of (a ∷ rest) = MoreItems a.is_spread (expr_of a.value) (items_of rest)
 
-abbrev pub entries_of : List entry.Entry → Entries
+abbrev pub entries_of : List entry.EntryExpression → Entries
 entries_of [] = NoEntries
 entries_of (a ∷ rest) = MoreEntries (literal_option a.key) (expr_of a.value) (entries_of rest)
 
@@ -145,7 +145,7 @@ applied_of form a span = let parts = out-Applied a in
 -- a call of these parts
 abbrev pub called_of : FunctionCall → Span → Expr
 called_of c span =
-    let parts = out-Called c in Call parts.name.now (arguments_of parts.arguments.items) span
+    let parts = out-FunctionCall c in Call parts.name.now (arguments_of parts.arguments.items) span
 
 -- a component that this tag calls
 abbrev pub tag_of : ComponentTag → Span → Expr

@@ -4,7 +4,7 @@ use denote.Param.Weighed.{most}
 use Rattle.tera_value_types.specs.Val.{Val, array, map, vals, entries, val_size, vals_size, entries_size}
 use Rattle.tera_value_types.specs.View.{entry_views}
 use Rattle.tera_value_types.specs.declared.value.Entry.{Entry}
-use Rattle.tera_value_types.specs.declared.value.Map.TheDeep.{size-Entry, size-Value}
+use Rattle.tera_value_types.specs.declared.value.EntryTable.TheDeep.{size-Entry, size-Value}
 
 pub item_below : (xs : List Val) (i : ℕ) (v : Val) → i < length xs → v ≡ get_or xs i v → val_size v < vals_size (vals xs)
 item_below [] i v h e = absurd (omega (arith, h))

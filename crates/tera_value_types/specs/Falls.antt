@@ -8,13 +8,13 @@ use Rattle.tera_value_types.specs.View.{node_view, entry_views, boxed_entries}
 use Rattle.tera_value_types.specs.declared.value.Entry.{Entry}
 use Rattle.tera_value_types.specs.declared.value.Representation.{Representation}
 use Rattle.tera_value_types.specs.declared.value.Representation.TheVariants as node
-use Rattle.tera_value_types.specs.declared.value.Map.TheDeep.{deep-Node, deep-Entry, deep-Map}
+use Rattle.tera_value_types.specs.declared.value.EntryTable.TheDeep.{deep-Representation, deep-Entry, deep-Map}
 
 pub most_le : (vs : List Val) → most (λ v. val_size v + 1) vs ≤ vals_size (vals vs) + 1
 most_le [] = omega arith
 most_le (v ∷ vs) = omega (arith, most_le vs)
 
-pub falls : (n : Representation) → max (deep-Node n) 0 ≤ val_size (node_view n)
+pub falls : (n : Representation) → max (deep-Representation n) 0 ≤ val_size (node_view n)
 falls node.Undefined = omega arith
 falls node.None = omega arith
 falls (node.Bool b) = omega arith

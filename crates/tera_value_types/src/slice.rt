@@ -13,7 +13,7 @@ use tera_errors::{Error, TeraResult};
 
 /// How many of so many items stand before the position that the number names, or before it and at it; the default where no
 /// number is given.
-fn bound(number: Option<i128>, default: usize, length: usize, at_it: bool) -> usize
+fn slice_bound(number: Option<i128>, default: usize, length: usize, at_it: bool) -> usize
     requires { default ≤ length }
     ensures before { IsFalse at_it → result ≡ bound (before length) default number }
     ensures through { IsTrue at_it → result ≡ bound (through length) default number }
@@ -72,12 +72,12 @@ fn positions(
 {
     let stride = step.unsigned_abs();
     if step > 0 {
-        let first = bound(start, 0, length, false);
-        let last = bound(end, length, length, false);
+        let first = slice_bound(start, 0, length, false);
+        let last = slice_bound(end, length, length, false);
         positions_upward(alloc, first, last, stride)
     } else {
-        let first = bound(start, length, length, true);
-        let last = bound(end, 0, length, true);
+        let first = slice_bound(start, length, length, true);
+        let last = slice_bound(end, 0, length, true);
         positions_downward(alloc, first, last, stride)
     }
 }

@@ -25,7 +25,7 @@ fn is_text(key: &Key, name: &str) -> bool
 }
 
 /// The value at a text key, looked for from the first entry on: of few entries that is the shorter way.
-fn first_at<'a>(all: &'a [Entry], name: &str) -> Option<&'a Value>
+fn first_value_at<'a>(all: &'a [Entry], name: &str) -> Option<&'a Value>
     ensures { option_copied result ≡ find (ktext name.now) (entry_views all.now) }
 {
     for entry in all {
@@ -76,7 +76,7 @@ impl EntryTable {
         ensures { option_copied result ≡ find (ktext name.now) self.now }
     {
         if self.all.len() <= 8 {
-            first_at(self.all.as_slice(), name)
+            first_value_at(self.all.as_slice(), name)
         } else {
             self.value_at(&KeyRef::Text(name))
         }

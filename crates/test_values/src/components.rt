@@ -139,7 +139,7 @@ fn falling_names(alloc: Global) -> TeraResult<Vec<String>> {
 }
 
 /// What a call of a component with these parameters binds, of which one is given.
-fn bound_of(alloc: Global, names: &[String]) -> TeraResult<Context> {
+fn bound_context(alloc: Global, names: &[String]) -> TeraResult<Context> {
     let mut parameters = Vec::new(alloc);
     for name in names {
         parameters.push(parameter(name.as_str(), false, None, Some(Literal::Int(2))))?;
@@ -169,7 +169,7 @@ fn is_bound(context: &Context, name: &str, number: i128) -> bool {
 }
 
 fn many_are_bound(alloc: Global) -> TeraResult<bool> {
-    let context = bound_of(alloc, falling_names(alloc)?.as_slice())?;
+    let context = bound_context(alloc, falling_names(alloc)?.as_slice())?;
     Ok(
         context.names()?.len() == 102
             && is_bound(&context, "body", 1)

@@ -2,7 +2,7 @@
 ghost use Rattle.std.specs.Prelude.{◌<◌};
 
 use crate::sample::Sample::{Int, Ints, Nothing, Pairs, Safe, Text, Truth, Undefined};
-use crate::sample::{Sample, first_wrong, value};
+use crate::sample::{Sample, first_wrong_row, value};
 use std::alloc::Global;
 use tera_operators::{
     Operand, array, attribute, binary, binary_in_place, item, map, negate, not, slice,
@@ -162,7 +162,7 @@ const JOINED: [OperatorRow; 35] = [
 
 #[test]
 fn operators_between_operands(rt: HostRuntime) {
-    let row = first_wrong(&JOINED, |row| joins(rt.alloc(), row));
+    let row = first_wrong_row(&JOINED, |row| joins(rt.alloc(), row));
     assert!(rt; row.is_none(), "at row {row:?}");
 }
 
@@ -232,7 +232,7 @@ const CHANGED: [(Op, i128, i128, &str); 22] = [
 
 #[test]
 fn numbers_change_in_place(rt: HostRuntime) {
-    let row = first_wrong(&CHANGED, |row| changes(rt.alloc(), of_numbers(row), true));
+    let row = first_wrong_row(&CHANGED, |row| changes(rt.alloc(), of_numbers(row), true));
     assert!(rt; row.is_none(), "at row {row:?}");
 }
 
@@ -278,12 +278,12 @@ const OTHERS: [OperatorRow; 7] = [
 
 #[test]
 fn what_changes_nothing(rt: HostRuntime) {
-    let row = first_wrong(
+    let row = first_wrong_row(
         &UNCHANGED,
         |row| changes(rt.alloc(), of_numbers(row), false),
     );
     assert!(rt; row.is_none(), "at row {row:?} of numbers");
-    let row = first_wrong(&OTHERS, |row| changes(rt.alloc(), row, false));
+    let row = first_wrong_row(&OTHERS, |row| changes(rt.alloc(), row, false));
     assert!(rt; row.is_none(), "at row {row:?} of others");
 }
 
@@ -307,7 +307,7 @@ const SIGNS: [(Sample, &str, &str); 4] = [
 
 #[test]
 fn signs_are_turned(rt: HostRuntime) {
-    let row = first_wrong(&SIGNS, |row| turns(rt.alloc(), row));
+    let row = first_wrong_row(&SIGNS, |row| turns(rt.alloc(), row));
     assert!(rt; row.is_none(), "at row {row:?}");
 }
 
@@ -355,12 +355,12 @@ const ITEMS: [(Sample, Sample, bool, &str); 9] = [
 #[test]
 fn parts_are_reached(rt: HostRuntime) {
     let alloc = rt.alloc();
-    let row = first_wrong(
+    let row = first_wrong_row(
         &ATTRIBUTES,
         |(target, name, optional, want)| has_attribute(alloc, target, name, optional, want),
     );
     assert!(rt; row.is_none(), "at attribute {row:?}");
-    let row = first_wrong(
+    let row = first_wrong_row(
         &ITEMS,
         |(target, index, optional, want)| has_item(alloc, target, index, optional, want),
     );
@@ -431,7 +431,7 @@ const SLICES: [([Sample; 4], bool, &str); 9] = [
 
 #[test]
 fn slices_are_cut(rt: HostRuntime) {
-    let row = first_wrong(&SLICES, |row| slices(rt.alloc(), row));
+    let row = first_wrong_row(&SLICES, |row| slices(rt.alloc(), row));
     assert!(rt; row.is_none(), "at row {row:?}");
 }
 
@@ -503,7 +503,7 @@ const ARRAYS: [((bool, bool), (Sample, Sample), &str); 4] = [
 
 #[test]
 fn arrays_are_spelled(rt: HostRuntime) {
-    let row = first_wrong(&ARRAYS, |row| spells_array(rt.alloc(), row));
+    let row = first_wrong_row(&ARRAYS, |row| spells_array(rt.alloc(), row));
     assert!(rt; row.is_none(), "at row {row:?}");
 }
 
@@ -536,6 +536,6 @@ const MAPS: [((&str, &str), (Sample, Sample), &str); 6] = [
 
 #[test]
 fn maps_are_spelled(rt: HostRuntime) {
-    let row = first_wrong(&MAPS, |row| spells_map(rt.alloc(), row));
+    let row = first_wrong_row(&MAPS, |row| spells_map(rt.alloc(), row));
     assert!(rt; row.is_none(), "at row {row:?}");
 }

@@ -122,7 +122,7 @@ pub(crate) fn answers(alloc: Global, answer: TeraResult<Value>, want: &str) -> b
 }
 
 /// The number of the first row of a table that is answered otherwise.
-pub(crate) fn first_wrong<R: Copy, F: Fn(R) -> bool>(rows: &[R], is_right: F) -> Option<usize>
+pub(crate) fn first_wrong_row<R: Copy, F: Fn(R) -> bool>(rows: &[R], is_right: F) -> Option<usize>
     requires { F.IsAlwaysCallable is_right }
 {
     rows.iter().position(|row| !is_right(*row))

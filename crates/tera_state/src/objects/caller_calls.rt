@@ -1,8 +1,8 @@
 // What renders asks the caller's boxes.
 use crate::objects::boxed_escape::{apply_by, escape_by, state_of_call, write_by};
 use crate::objects::caller_objects::CallerObjects;
+use crate::objects::interface::Objects;
 use crate::objects::object_call::ObjectCall;
-use crate::objects::objects::Objects;
 use crate::objects::safe_answers::mark_if;
 use std::alloc::{AllocError, Global};
 use tera_built_ins::BuiltInFilter;

@@ -2,7 +2,7 @@
 ghost use Rattle.std.specs.Prelude.{◌≡◌, ◌&&◌, not, ℕ, [], take, is_some, OnOk, OnErr, IfErr};
 ghost use Rattle.tera_errors.specs.Prelude.{Lacks};
 ghost use Rattle.tera_values.specs.Prelude.{at_name, put};
-ghost use Rattle.tera_state.specs.ObjectTable.{listed, moved};
+ghost use Rattle.tera_state.specs.Table.{listed, moved};
 ghost use Rattle.tera_state.specs.Taken.{AreTaken, is_built_in};
 ghost use Rattle.std.proofs.Props.{props};
 

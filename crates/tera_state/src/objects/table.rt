@@ -26,7 +26,7 @@ pub struct ObjectTable<X> {
 }
 
 impl<X: Drop> ObjectTable<X> {
-    ghost use Rattle.tera_state.specs.ObjectTable.{listed, moved};
+    ghost use Rattle.tera_state.specs.Table.{listed, moved};
 
     /// Without any. Takes no memory.
     pub fn new(alloc: Global) -> ObjectTable<X>

@@ -3,8 +3,8 @@ use Rattle.tera_value_types.specs.Val.{vals, entries, val_size, vals_size, entri
 use Rattle.tera_value_types.specs.View.{entry_views}
 use Rattle.tera_value_types.proofs.+sharing.Given as goal
 
-abbrev pub decreases-value::Value::shared : goal.decreases-value::Value::shared
-decreases-value::Value::shared a = 2 * val_size a.self
+abbrev pub decreases-value::Value::into_shared : goal.decreases-value::Value::into_shared
+decreases-value::Value::into_shared a = 2 * val_size a.self
 
 abbrev pub decreases-copy::share_items : goal.decreases-copy::share_items
 decreases-copy::share_items a = 2 * vals_size (vals a.items.now)

@@ -15,7 +15,7 @@ pub struct ScriptSource<'a> {
 
 impl<'a> ScriptSource<'a> {
     /// A reader that fails at this read.
-    pub fn failing_at(text: &'a [u8], fails_at: usize) -> ScriptSource<'a> {
+    pub fn with_failing_read(text: &'a [u8], fails_at: usize) -> ScriptSource<'a> {
         ScriptSource {
             rest: text,
             reads: 0,
@@ -25,7 +25,7 @@ impl<'a> ScriptSource<'a> {
 
     /// A reader that never fails.
     pub fn new(text: &'a [u8]) -> ScriptSource<'a> {
-        ScriptSource::failing_at(text, usize::MAX)
+        ScriptSource::with_failing_read(text, usize::MAX)
     }
 }
 
@@ -67,7 +67,7 @@ pub struct Sink {
 
 impl Sink {
     /// A writer that takes so many bytes, up to 128, and fails in this way.
-    pub fn failing_after(room: usize, failing: Failing) -> Sink {
+    pub fn with_failing_write(room: usize, failing: Failing) -> Sink {
         Sink {
             bytes: [0; 128],
             used: 0,
@@ -78,7 +78,7 @@ impl Sink {
 
     /// A writer that takes all that the tests write.
     pub fn new() -> Sink {
-        Sink::failing_after(128, Failing::Writes)
+        Sink::with_failing_write(128, Failing::Writes)
     }
 
     /// What it took.

@@ -13,7 +13,11 @@ const COMPLAINT: &[u8] = b"unreadable command at line 12\n";
 /// Whether the run ends at this read where it fails, with nothing written.
 fn fails_at_read(alloc: Global, number: usize) -> bool {
     let mut sink = Sink::new();
-    let outcome = run_between(alloc, ScriptSource::failing_at(HELLO, number), &mut sink);
+    let outcome = run_between(
+        alloc,
+        ScriptSource::with_failing_read(HELLO, number),
+        &mut sink,
+    );
     // Its 62 bytes take nine reads, a tenth finds the end, and one was interrupted.
     if number <= 11 {
         outcome == Some(Device) && sink.written_bytes().is_empty()
@@ -24,7 +28,7 @@ fn fails_at_read(alloc: Global, number: usize) -> bool {
 
 /// Whether the run ends where the writer's room does.
 fn fails_at_write(alloc: Global, room: usize, failing: Failing) -> bool {
-    let mut sink = Sink::failing_after(room, failing);
+    let mut sink = Sink::with_failing_write(room, failing);
     run_between(alloc, ScriptSource::new(HELLO), &mut sink) == Some(Device)
         && sink.written_bytes().len() == room
         && REPLIES.starts_with(sink.written_bytes())
@@ -36,7 +40,7 @@ fn fails_before_unreadable(alloc: Global, room: usize, failing: Failing) -> bool
     run_between(
         alloc,
         ScriptSource::new(script),
-        &mut Sink::failing_after(room, failing),
+        &mut Sink::with_failing_write(room, failing),
     ) == Some(Device)
 }
 
@@ -75,7 +79,8 @@ fn complaints(rt: HostRuntime) {
     let part = OutcomeRow(Unreadable(12), b"unreadab", 2);
     assert!(rt;
         TOLD.iter().all(|told| {
-            is_told(*told, Sink::new()) && is_told(*told, Sink::failing_after(64, Failing::Flushes))
-        }) && is_told(part, Sink::failing_after(8, Failing::Writes))
+            is_told(*told, Sink::new())
+                && is_told(*told, Sink::with_failing_write(64, Failing::Flushes))
+        }) && is_told(part, Sink::with_failing_write(8, Failing::Writes))
     );
 }

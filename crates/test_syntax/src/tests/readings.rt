@@ -103,7 +103,7 @@ fn is_as_deep(alloc: Global, nest: NestedText) -> bool {
 }
 
 /// The first text whose tree is another.
-fn first_wrong(alloc: Global, rows: &[TreeRow]) -> Option<&'static str> {
+fn first_wrong_row(alloc: Global, rows: &[TreeRow]) -> Option<&'static str> {
     for row in rows {
         if !agrees(alloc, *row) {
             return Some(row.0);
@@ -113,7 +113,7 @@ fn first_wrong(alloc: Global, rows: &[TreeRow]) -> Option<&'static str> {
 }
 
 /// The first text that is read though it spells no tree.
-fn first_read(alloc: Global, texts: &[RefusedText]) -> Option<&'static str> {
+fn first_readable_text(alloc: Global, texts: &[RefusedText]) -> Option<&'static str> {
     for text in texts {
         if !is_refused(alloc, text.0) {
             return Some(text.0);
@@ -123,11 +123,14 @@ fn first_read(alloc: Global, texts: &[RefusedText]) -> Option<&'static str> {
 }
 
 /// The first text of these tables that is answered otherwise.
-fn first_other(alloc: Global, tables: &[(&[TreeRow], &[RefusedText])]) -> Option<&'static str> {
+fn first_wrong_text(
+    alloc: Global,
+    tables: &[(&[TreeRow], &[RefusedText])],
+) -> Option<&'static str> {
     for (trees, refused) in tables {
-        let other = match first_wrong(alloc, trees) {
+        let other = match first_wrong_row(alloc, trees) {
             Some(wrong) => Some(wrong),
-            None => first_read(alloc, refused),
+            None => first_readable_text(alloc, refused),
         };
         if other.is_some() {
             return other;
@@ -147,7 +150,7 @@ fn texts(rt: HostRuntime) {
         (&DEFINITIONS, &UNREAD_DEFINITIONS),
         (&CALLS, &UNREAD_CALLS),
     ];
-    assert_eq!(rt; first_other(alloc, &tables), None);
+    assert_eq!(rt; first_wrong_text(alloc, &tables), None);
 }
 
 #[test]

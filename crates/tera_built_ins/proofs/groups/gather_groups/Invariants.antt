@@ -8,6 +8,6 @@ abbrev pub invariant-loop-one : goal.invariant-loop-one
 invariant-loop-one l = record {
   whole : l.yielded ++ into_iter_items l.one-iterator ≡ l.fn.keyed.items;
   size : into_iter_len l.one-iterator ≡ length (into_iter_items l.one-iterator);
-  placed : l.positions ≡ numbered 0 (map group_view l.gather_groups.items);
-  grouped : map group_view l.gather_groups.items ≡ groups (map keyed_view l.yielded);
+  placed : l.positions ≡ numbered 0 (map group_view l.gathered.items);
+  grouped : map group_view l.gathered.items ≡ groups (map keyed_view l.yielded);
 }

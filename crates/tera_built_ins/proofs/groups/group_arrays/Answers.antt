@@ -9,7 +9,7 @@ use Rattle.tera_built_ins.proofs.groups.group_arrays.Goals as goal
 
 pub returns : goal.returns
 returns c =
-    let gs = c.args.gather_groups.items in
+    let gs = c.args.gathered.items in
     let left = none-left (into_iter_items c.loop-group.group-iterator) (into_iter_len c.loop-group.group-iterator) c.loop-group.invariant.size c.in-None.ensures.steps.0 in
     let done : c.loop-group.all ≡ put_all [] (arrays gs) = ap (λ l. put_all c.loop-group.all (arrays l)) (sym left) ∙ c.loop-group.invariant.put in
     let other : AllOther (keys (arrays gs)) = subst AllOther (sym (map-map (λ g. (g.0, array (vals g.1))) (λ e. e.0) (map group_view gs))) c.requires in

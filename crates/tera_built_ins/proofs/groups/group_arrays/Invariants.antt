@@ -11,6 +11,6 @@ arrays gs = map (λ g. (g.0, array (vals g.1))) (map group_view gs)
 
 abbrev pub invariant-loop-group : goal.invariant-loop-group
 invariant-loop-group l = record {
-  put : put_all l.all (arrays (into_iter_items l.group-iterator)) ≡ put_all [] (arrays l.fn.gather_groups.items);
+  put : put_all l.all (arrays (into_iter_items l.group-iterator)) ≡ put_all [] (arrays l.fn.gathered.items);
   size : into_iter_len l.group-iterator ≡ length (into_iter_items l.group-iterator);
 }

@@ -7,5 +7,5 @@ use Rattle.tera_built_ins.proofs.groups.grouped_items.Goals as goal
 
 pub group_arrays-requires : goal.group_arrays-requires
 group_arrays-requires c =
-    let is : groups (map keyed_view c.in_ok-keyed.keyed.items) ≡ map group_view c.in_ok-gather_groups.gather_groups.items = search rules in
+    let is : groups (map keyed_view c.in_ok-keyed.keyed.items) ≡ map group_view c.in_ok-gathered.gathered.items = search rules in
     subst (λ (gs : List (KeyVal × List Val)). AllOther (map (λ g. g.0) gs)) is (groups-other (map keyed_view c.in_ok-keyed.keyed.items))

@@ -9,4 +9,4 @@ use Rattle.tera_built_ins.proofs.trims.without_end.Goals as goal
 pub returns-in-Some : goal.returns-in-Some
 returns-in-Some c =
     trim_end-is c.in-Some.pattern.text.now c.args.text.now _ c.trim_end_matches.ensures.matches
-    ∙ ap (λ o. spec.without_end plain (option_map given_of o) c.args.text.now) (sym c.in-Some.is)
+    ∙ ap (λ o. spec.off_end plain (option_map given_of o) c.args.text.now) (sym c.in-Some.is)

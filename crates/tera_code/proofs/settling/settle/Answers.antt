@@ -15,6 +15,6 @@ loop-at-preserved c =
     let n = c.loop-at.invariant in
     let there : c.loop-at.at < length ps = omega (arith, n.long) in
     elim c.if-has_notes.branch [
-      | then-has_notes w ↦ rw w.code-is (one_noted s from c.loop-at.at ps n _ there w.with_notes-with_notes.ensures.within w.with_notes-with_notes.ensures.same w.with_notes-with_notes.ensures.notes)
+      | then-has_notes w ↦ rw w.code-is (one_noted s from c.loop-at.at ps n _ there w.with_notes-noted.ensures.within w.with_notes-noted.ensures.same w.with_notes-noted.ensures.notes)
       | else-has_notes w ↦ rw w.code-is (none_more s from c.loop-at.at ps n there (sym c.has_notes.ensures ∙ w.if-has_notes.false))
     ]

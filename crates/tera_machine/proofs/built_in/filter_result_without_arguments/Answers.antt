@@ -2,4 +2,4 @@ use Rattle.std.proofs.Common.{[]}
 use Rattle.tera_machine.proofs.built_in.filter_result_without_arguments.Goals as goal
 
 pub returns : goal.returns
-returns g c = λ around vars. c.filter_result.ensures around vars [] c.of_none-of_none.ensures
+returns g c = λ around vars. c.filter_result.ensures around vars [] c.of_none-none.ensures

@@ -34,4 +34,4 @@ pub returns-clause-those : goal.returns-clause-those
 returns-clause-those c =
     let i = c.loop-name.invariant in
     let h = resolve (seen c.args.templates.now c.args.prefixes.now) in
-    fill-ends _ _ _ _ i.filled (omega (arith, ap length c.deref-name-items.ensures.value)) ∙ ap (filter_map h) c.args.of.now.included_positions
+    fill-ends _ _ _ _ i.filled (omega (arith, ap length c.deref-name-items.ensures.value)) ∙ ap (filter_map h) c.args.of.now.included

@@ -54,7 +54,7 @@ any_is_incomplete-requires g c = λ κs within.
           (
             sym (length-rows c.as_slice-4.result.now) ∙ edges.as_many,
             (
-              subst (λ (r : Registry). AreChosen r c.in_ok-components_by_name.field-0.components_by_name) here (chosen-served engine ts ps c.in_ok-components_by_name.field-0.components_by_name c.in_ok-components_by_name.ensures.taken),
+              subst (λ (r : Registry). AreChosen r c.in_ok-components_by_name.field-0.choices) here (chosen-served engine ts ps c.in_ok-components_by_name.field-0.choices c.in_ok-components_by_name.ensures.taken),
               ap (λ (r : Registry). r.engine) c.requires.1.1,
             ),
           ),
@@ -71,8 +71,8 @@ table_of-requires g c =
       climbable-served (g.O.Objects.engine c.args.objects.now) ts ps g.registry _ (sym c.requires.1.1) c.requires.1.0 ups (grounded g.registry (climbed-faultless g.registry c.in-Ok.ensures.answer)),
     )
 
-pub all_missing-requires : goal.all_missing-requires
-all_missing-requires g c = λ κs within.
+pub missing_error-requires : goal.missing_error-requires
+missing_error-requires g c = λ κs within.
     let ts = c.args.templates.now in
     let ps = c.args.prefixes.now in
     let ups = all-ups ts ps _ _ c.as_slice-then-any_is_incomplete.ensures.value c.in_ok-ups.ensures in (
@@ -85,7 +85,7 @@ all_missing-requires g c = λ κs within.
 
 pub returns-then-any_is_incomplete-clause-answer : goal.returns-then-any_is_incomplete-clause-answer
 returns-then-any_is_incomplete-clause-answer g c =
-    told c.all_missing.result (accepted g.registry) c.all_missing.ensures (lacks-says g.registry c.in-Ok.ensures.answer (sym c.if-any_is_incomplete.ensures))
+    told c.missing_error.result (accepted g.registry) c.missing_error.ensures (lacks-says g.registry c.in-Ok.ensures.answer (sym c.if-any_is_incomplete.ensures))
 
 pub returns-clause-answer : goal.returns-clause-answer
 returns-clause-answer g c = keeps-all g.registry c.in-Ok.ensures.answer (sym c.if-any_is_incomplete.ensures)
@@ -100,5 +100,5 @@ returns-clause-ups g c =
 pub returns-clause-components_by_name : goal.returns-clause-components_by_name
 returns-clause-components_by_name g c =
     let engine = g.O.Objects.engine c.args.objects.now in
-    let choices = c.in_ok-components_by_name.field-0.components_by_name in
+    let choices = c.in_ok-components_by_name.field-0.choices in
     subst (λ (r : Registry). AreChosen r choices) (sym c.requires.1.1) (chosen-served engine c.args.templates.now c.args.prefixes.now choices c.in_ok-components_by_name.ensures.taken)

@@ -9,5 +9,5 @@ ghost-any_is_incomplete g a = g.registry
 abbrev pub ghost-table_of : goal.ghost-table_of
 ghost-table_of g a = g.registry
 
-abbrev pub ghost-all_missing : goal.ghost-all_missing
-ghost-all_missing g a = g.registry
+abbrev pub ghost-missing_error : goal.ghost-missing_error
+ghost-missing_error g a = g.registry

@@ -5,4 +5,4 @@ use Rattle.tera_registry.proofs.outside_calls.add_all.Given as goal
 
 abbrev pub invariant-loop-one : goal.invariant-loop-one
 invariant-loop-one g l =
-    l.outside_calls.items ++ flat_map (λ b. code_needs (g.B.HasBody.listing b).code) (drop l.one-index l.all) ≡ l.initial.outside_calls.items ++ flat_map (λ b. code_needs (g.B.HasBody.listing b).code) l.all
+    l.needs.items ++ flat_map (λ b. code_needs (g.B.HasBody.listing b).code) (drop l.one-index l.all) ≡ l.initial.needs.items ++ flat_map (λ b. code_needs (g.B.HasBody.listing b).code) l.all

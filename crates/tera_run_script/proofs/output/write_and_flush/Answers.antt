@@ -9,7 +9,7 @@ returns-in-Ok-clause-written g c =
     let contents = g.W.Output.contents in
     record {
       put = flushed (passed c.args.writer.now) (passed c.write_pieces.new.writer) (passed c.flush.new.self)
-          (flat_map (λ piece. piece.now) c.args.pieces.now) c.flush.result c.in-Ok.ensures.write_and_flush c.flush.ensures.passed;
+          (flat_map (λ piece. piece.now) c.args.pieces.now) c.flush.result c.in-Ok.ensures.put c.flush.ensures.passed;
       device = through_then _ taking passed contents c.args.writer.now c.write_pieces.new.writer c.flush.new.self c.in-Ok.ensures.device
           (to_flush passed contents c.write_pieces.new.writer c.flush.new.self c.flush.result c.flush.ensures.passed c.flush.ensures.device);
     }

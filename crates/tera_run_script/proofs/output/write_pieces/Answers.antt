@@ -7,6 +7,6 @@ returns-in-Err g c =
     let passed = g.W.Output.passed in
     record {
       put = parts_fail (λ piece. piece.now) (passed c.args.writer.now) (passed c.loop-piece.writer) (passed c.write_piece.new.writer)
-          c.args.pieces.now c.loop-piece.piece-index _ c.loop-piece.invariant.write_and_flush c.loop-piece-test.true c.in-Err.ensures.write_and_flush;
+          c.args.pieces.now c.loop-piece.piece-index _ c.loop-piece.invariant.put c.loop-piece-test.true c.in-Err.ensures.put;
       device = through_then _ taking passed g.W.Output.contents c.args.writer.now c.loop-piece.writer c.write_piece.new.writer c.loop-piece.invariant.device c.in-Err.ensures.device;
     }

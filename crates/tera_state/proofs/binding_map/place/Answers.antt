@@ -12,11 +12,11 @@ returns-clause-places c =
     let new = c.insert.new.self in
     let size = length c.args.items.now.items in
     let name : c.in-Ok.name ≡ b.name = search rules in
-    let at : c.len-layer_at.result ≡ size = search rules in
+    let at : c.len-at.result ≡ size = search rules in
     elim c.match-insert.branch [
       | in-Ok-insert w ↦
           subst (λ r. OnOk r (Updates layer_name_cmp old new (key b.frame b.layer b.name) (Some size))) (sym w.result-is)
           (subst (λ (i : ℕ). Updates layer_name_cmp old new (key b.frame b.layer b.name) (Some i)) at
-          (subst (λ (n : Name). Updates layer_name_cmp old new (key b.frame b.layer n) (Some c.len-layer_at.result)) name w.in-Ok-insert.ensures.updates))
+          (subst (λ (n : Name). Updates layer_name_cmp old new (key b.frame b.layer n) (Some c.len-at.result)) name w.in-Ok-insert.ensures.updates))
       | in-Err w ↦ subst (λ r. OnOk r (Updates layer_name_cmp old new (key b.frame b.layer b.name) (Some size))) (sym w.result-is) tt
     ]

@@ -36,7 +36,7 @@ all_read d text rest f trims at so_far empty =
 pub returns-in-Err-clause-value : goal.returns-in-Err-clause-value
 returns-in-Err-clause-value c =
     let l = some_bytes c.loop-rest.rest.now (sym c.is_empty.ensures ∙ c.loop-rest-test.true) in
-    refused_too _ c.in-Err.refusal c.cut_refusal.result c.cut_refusal.ensures.same (refused c.in-Err.refusal (λ n. ap (option_and_then spec.with_distinct_names) (c.loop-rest.invariant.so_far
+    refused_too _ c.in-Err.refusal c.cut_refusal.result c.cut_refusal.ensures.same (refused c.in-Err.refusal (λ n. ap (option_and_then spec.once) (c.loop-rest.invariant.so_far
     ∙ ap (spec.file_read_on max_tree_depth (file_of c.loop-rest.file)) (cut_broken (delimiters_of c.args.delimiters.now) c.loop-rest.trims c.loop-rest.at c.loop-rest.rest.now l n)
     ∙ file_broken max_tree_depth (file_of c.loop-rest.file)))
     c.in-Err.ensures.value)
@@ -46,7 +46,7 @@ returns-in-Err-step-clause-value c =
     let d = delimiters_of c.args.delimiters.now in
     let l = some_bytes c.loop-rest.rest.now (sym c.is_empty.ensures ∙ c.loop-rest-test.true) in
     let s = cut_step d c.loop-rest.trims c.loop-rest.at c.loop-rest.rest.now (found_of c.as_slice.result.now c.in-Ok.piece) l (found_in _ _ _ c.in-Ok.piece (sym c.as_slice.ensures.value) c.in-Ok.ensures.value) c.in-Ok.ensures.moves in
-    refused c.in-Err-step.refusal (λ n. ap (option_and_then spec.with_distinct_names) (c.loop-rest.invariant.so_far
+    refused c.in-Err-step.refusal (λ n. ap (option_and_then spec.once) (c.loop-rest.invariant.so_far
     ∙ ap (spec.file_read_on max_tree_depth (file_of c.loop-rest.file)) s
     ∙ ap (option_and_then (λ t. spec.file_read_on max_tree_depth t (cut d c.in-Ok.piece.trims 0 c.in-Ok.piece.next _))) n))
     c.in-Err-step.ensures.value
@@ -85,13 +85,13 @@ pub returns-in_err-output-clause-value : goal.returns-in_err-output-clause-value
 returns-in_err-output-clause-value c =
     let all = all_read (delimiters_of c.args.delimiters.now) c.args.source.now c.loop-rest.rest.now (file_of c.loop-rest.file) c.loop-rest.trims c.loop-rest.at c.loop-rest.invariant.so_far (sym c.is_empty.ensures ∙ c.loop-rest-test.false) in
     let handed : Refuses (spec.file max_tree_depth (pieces (delimiters_of c.args.delimiters.now) c.args.source.now)) c.in_err-output.field-0.0 =
-    refused c.in_err-output.field-0.0 (λ n. ap (option_and_then spec.with_distinct_names) (all ∙ n)) c.in_err-output.ensures.value in
+    refused c.in_err-output.field-0.0 (λ n. ap (option_and_then spec.once) (all ∙ n)) c.in_err-output.ensures.value in
     search rules
 
 pub returns-clause-value : goal.returns-clause-value
 returns-clause-value c =
     let all = all_read (delimiters_of c.args.delimiters.now) c.args.source.now c.loop-rest.rest.now (file_of c.loop-rest.file) c.loop-rest.trims c.loop-rest.at c.loop-rest.invariant.so_far (sym c.is_empty.ensures ∙ c.loop-rest-test.false) in
-    subst (λ o. Answers tree_of (option_and_then spec.with_distinct_names o) c.with_distinct_names.result) (sym (all ∙ c.in_ok-output.ensures.value)) c.with_distinct_names.ensures.value
+    subst (λ o. Answers tree_of (option_and_then spec.once o) c.with_distinct_names.result) (sym (all ∙ c.in_ok-output.ensures.value)) c.with_distinct_names.ensures.value
 
 pub returns-clause-points : goal.returns-clause-points
 returns-clause-points c =

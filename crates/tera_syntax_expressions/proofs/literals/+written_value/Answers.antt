@@ -57,12 +57,12 @@ entries-returns t c = refuses c.refuse.result c.refuse.ensures (round_over Right
 pub item-returns : goal.item-returns
 unfolding written_item
 item-returns t c =
-    rw (c.in-Ok.ensures) (ap (λ xs. Some (xs, input c.written.new.tokens)) (sym (ap literals_of c.in_ok-push.ensures.items ∙ literals_of-push c.args.found.now.items _)))
+    rw (c.in-Ok.ensures) (ap (λ xs. Some (xs, input c.written_value.new.tokens)) (sym (ap literals_of c.in_ok-push.ensures.items ∙ literals_of-push c.args.found.now.items _)))
 
 pub entry-returns : goal.entry-returns
 unfolding written_entry
 entry-returns t c =
-    rw (c.in-Ok.ensures, c.in-Ok-written_value.ensures) (ap (λ xs. Some (xs, input c.written.new.tokens)) (sym (ap literal_entries_of c.in_ok-push.ensures.items ∙ literal_entries_of-push c.args.found.now.items _)))
+    rw (c.in-Ok.ensures, c.in-Ok-written_value.ensures) (ap (λ xs. Some (xs, input c.written_value.new.tokens)) (sym (ap literal_entries_of c.in_ok-push.ensures.items ∙ literal_entries_of-push c.args.found.now.items _)))
 
 pub written_value-returns-then-limit-eq0 : goal.written_value-returns-then-limit-eq0
 written_value-returns-then-limit-eq0 t c = refuses c.refuse.result c.refuse.ensures (written_none c.args.limit (input c.args.tokens.now) c.if-limit-eq0.true)

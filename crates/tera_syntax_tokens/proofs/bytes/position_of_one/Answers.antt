@@ -8,7 +8,7 @@ pub returns-in-Some-clause-value : goal.returns-in-Some-clause-value
 returns-in-Some-clause-value c =
     let f = c.in-Some.ensures in
     sym (position_of_head (is_byte c.args.a) c.args.bytes.now c.in-Some.i (let h = f.0.high in omega arith)
-    (λ j l. false_from_ne_true _ (f.0.bytes_to j (omega arith) l)) (λ l. f.1))
+    (λ j l. false_from_ne_true _ (f.0.before j (omega arith) l)) (λ l. f.1))
 
 pub returns-in-None-clause-value : goal.returns-in-None-clause-value
 returns-in-None-clause-value c =

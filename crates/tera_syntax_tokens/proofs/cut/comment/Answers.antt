@@ -24,6 +24,6 @@ returns-clause-value c tokens =
     let s = ap length c.as_bytes-bytes.ensures.value in
     let e : c.position-n.result ≡ position (begins c.args.end.now) c.args.text.now = cc in
     let l : c.position-n.result < length c.args.text.now = omega (arith, s) in
-    let b = c.bytes_to-2.ensures in
+    let b = c.bytes_to.ensures in
     let q : c.ends_with.result ≡ ends_with (λ a b. a == b) (take c.position-n.result c.args.text.now) hyphen = c.ends_with.ensures.value ∙ ap (λ bs. ends_with (λ a b. a == b) bs hyphen) (b ∙ ap (take c.position-n.result) c.as_bytes-bytes.ensures.value) in
     a_comment c.args.end.now c.args.at c.position-n.result c.args.text.now c.ends_with.result e l q

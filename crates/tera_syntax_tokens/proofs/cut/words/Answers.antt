@@ -8,8 +8,8 @@ pub split_at-requires : goal.split_at-requires
 split_at-requires c =
     rw (c.opening_ahead-ahead.ensures.value, c.as_bytes.ensures.value) (words_boundary c.args.delimiters.now c.args.text.now c.requires.usable c.utf8.text)
 
-pub trims_before-rest_of_tag-requires : goal.trims_before-rest_of_tag-requires
-trims_before-rest_of_tag-requires c =
+pub trims_before-behind-requires : goal.trims_before-behind-requires
+trims_before-behind-requires c =
     let d = delimiters_of c.args.delimiters.now in
     let e : c.opening_ahead-ahead.result.opening ≡ opening_at d c.split_at.result.1.now = c.opening_ahead-ahead.ensures.known
     ∙ ap (λ t. opening_at d (drop c.opening_ahead-ahead.result.at t)) c.as_bytes.ensures.value ∙ ap (opening_at d) (sym c.split_at.ensures.back) in

@@ -21,14 +21,14 @@ returns-in-Some-clause-value c =
 pub loop-i-preserved-then-is_blank : goal.loop-i-preserved-then-is_blank
 loop-i-preserved-then-is_blank c =
     let l : c.loop-i.i < length c.args.text.now = omega (arith, ap length c.as_bytes-bytes.ensures.value) in
-    let n : c.closing_in.result ≡ None = none_from c.closing_in.result c.in_default.not-Some in
+    let n : c.tag_ending_in.result ≡ None = none_from c.tag_ending_in.result c.in_default.not-Some in
     let e = passes_blank c.args.end.now c.loop-i.opened c.args.at c.loop-i.i c.args.text.now l (cc) (cc) in
     record { within = omega arith; few = omega (arith, c.loop-i.invariant.few); so_far = c.loop-i.invariant.so_far ∙ ap (prefixed (tokens_of c.loop-i.tokens.items)) e }
 
 pub returns-in_default-next_token-clause-value : goal.returns-in_default-next_token-clause-value
 returns-in_default-next_token-clause-value c =
     let l : c.loop-i.i < length c.args.text.now = omega (arith, ap length c.as_bytes-bytes.ensures.value) in
-    let n : c.closing_in.result ≡ None = none_from c.closing_in.result c.in_default.not-Some in
+    let n : c.tag_ending_in.result ≡ None = none_from c.tag_ending_in.result c.in_default.not-Some in
     let e = no_token c.args.end.now c.loop-i.opened c.args.at c.loop-i.i c.args.text.now l (cc) (cc) (sym c.in_default-next_token.ensures) in
     c.loop-i.invariant.so_far ∙ ap (prefixed (tokens_of c.loop-i.tokens.items)) e
 
@@ -41,7 +41,7 @@ loop-i-smaller c =
 pub loop-i-preserved : goal.loop-i-preserved
 loop-i-preserved c =
     let l : c.loop-i.i < length c.args.text.now = omega (arith, ap length c.as_bytes-bytes.ensures.value) in
-    let n : c.closing_in.result ≡ None = none_from c.closing_in.result c.in_default.not-Some in
+    let n : c.tag_ending_in.result ≡ None = none_from c.tag_ending_in.result c.in_default.not-Some in
     let e = takes_token c.args.end.now c.loop-i.opened c.args.at c.loop-i.i c.args.text.now (token_of c.in-Some-next_token.token) l (cc) (cc) (sym c.in-Some-next_token.ensures) in
     let t = token_size (c.args.at + c.loop-i.i) (drop c.loop-i.i c.args.text.now) (token_of c.in-Some-next_token.token) (sym c.in-Some-next_token.ensures) in
     let p : tokens_of c.push.new.self.items ≡ tokens_of c.loop-i.tokens.items ++ token_of c.in-Some-next_token.token ∷ [] =

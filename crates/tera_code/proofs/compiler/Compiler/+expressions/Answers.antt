@@ -1,6 +1,6 @@
 use Rattle.std.proofs.Common.{rules, ◌≡◌, false, refl, ◌∙◌, ◌∷◌, [], ◌++◌, length, ap, sym}
 use Rattle.tera_syntax_tree.specs.declared.expression.Applied.{out-Applied}
-use Rattle.tera_syntax_tree.specs.declared.expression.FunctionCall.{out-Called}
+use Rattle.tera_syntax_tree.specs.declared.expression.FunctionCall.{out-FunctionCall}
 use Rattle.tera_syntax_tree.specs.declared.expression.Choice.{Choice}
 use Rattle.tera_syntax_tree.specs.declared.expression.ComponentTag.{out-ComponentTag}
 use Rattle.tera_syntax_tree.specs.declared.expression.Operands.{Operands}
@@ -56,15 +56,15 @@ expression-returns-in-Comprehension t c =
 
 pub expression-returns-in-Filter : goal.expression-returns-in-Filter
 expression-returns-in-Filter t c =
-    record { ok = seen expr_code _ _ _ _ _ (ap (λ x. applied_of Filter x c.in-Filter.span) c.deref-in-Filter.ensures ∙ sym (ap expr_of c.in-Filter.is ∙ view_filter c.in-Filter.application c.in-Filter.span)) c.application.ensures.ok }
+    record { ok = seen expr_code _ _ _ _ _ (ap (λ x. applied_of Filter x c.in-Filter.span) c.deref-in-Filter.ensures ∙ sym (ap expr_of c.in-Filter.is ∙ view_filter c.in-Filter.applied c.in-Filter.span)) c.application.ensures.ok }
 
 pub expression-returns-in-Test : goal.expression-returns-in-Test
 expression-returns-in-Test t c =
-    record { ok = seen expr_code _ _ _ _ _ (ap (λ x. applied_of Test x c.in-Test.span) c.deref-in-Test.ensures ∙ sym (ap expr_of c.in-Test.is ∙ view_test c.in-Test.application c.in-Test.span)) c.application-in-Test.ensures.ok }
+    record { ok = seen expr_code _ _ _ _ _ (ap (λ x. applied_of Test x c.in-Test.span) c.deref-in-Test.ensures ∙ sym (ap expr_of c.in-Test.is ∙ view_test c.in-Test.applied c.in-Test.span)) c.application-in-Test.ensures.ok }
 
 pub expression-returns-in-Call : goal.expression-returns-in-Call
 expression-returns-in-Call t c =
-    record { ok = seen expr_code _ _ _ _ _ (ap (λ x. called_of x c.in-Call.span) c.deref-in-Call.ensures ∙ sym (ap expr_of c.in-Call.is ∙ view_call c.in-Call.function_call c.in-Call.span)) c.function_call.ensures.ok }
+    record { ok = seen expr_code _ _ _ _ _ (ap (λ x. called_of x c.in-Call.span) c.deref-in-Call.ensures ∙ sym (ap expr_of c.in-Call.is ∙ view_call c.in-Call.called c.in-Call.span)) c.function_call.ensures.ok }
 
 pub expression-returns-in-Component : goal.expression-returns-in-Component
 expression-returns-in-Component t c =
@@ -101,11 +101,11 @@ super_call-returns t c =
 
 pub application-returns : goal.application-returns
 application-returns t c =
-    record { ok = applied_written _ _ _ _ _ _ _ (out-Applied c.args.application.now).arguments.items (λ all. call_of c.args.kind (out-Applied c.args.application.now).name.now (argument_names all) c.args.span) _ c.as_slice-arguments.ensures.value c.as_slice-arguments.ensures.value c.in_ok-expression.ensures.ok c.in_ok-arguments.ensures.ok c.call.ensures.ok }
+    record { ok = applied_written _ _ _ _ _ _ _ (out-Applied c.args.applied.now).arguments.items (λ all. call_of c.args.kind (out-Applied c.args.applied.now).name.now (argument_names all) c.args.span) _ c.as_slice-arguments.ensures.value c.as_slice-arguments.ensures.value c.in_ok-expression.ensures.ok c.in_ok-arguments.ensures.ok c.call.ensures.ok }
 
 pub function_call-returns : goal.function_call-returns
 function_call-returns t c =
-    record { ok = taken_written _ _ _ _ _ (out-Called c.args.function_call.now).arguments.items (λ x. arguments_code (arguments_of x)) (λ y. instruction.CallFunction (out-Called c.args.function_call.now).name.now (argument_names (arguments_of y)) c.args.span) _ c.as_slice-arguments.ensures.value c.as_slice-arguments.ensures.value c.in_ok-arguments.ensures.ok c.call.ensures.ok }
+    record { ok = taken_written _ _ _ _ _ (out-FunctionCall c.args.called.now).arguments.items (λ x. arguments_code (arguments_of x)) (λ y. instruction.CallFunction (out-FunctionCall c.args.called.now).name.now (argument_names (arguments_of y)) c.args.span) _ c.as_slice-arguments.ensures.value c.as_slice-arguments.ensures.value c.in_ok-arguments.ensures.ok c.call.ensures.ok }
 
 pub tag-returns : goal.tag-returns
 tag-returns t c =

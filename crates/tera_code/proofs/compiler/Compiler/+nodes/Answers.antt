@@ -22,7 +22,7 @@ pub node-returns-in_ok-section-in-Capture : goal.node-returns-in_ok-section-in-C
 node-returns-in_ok-section-in-Capture t c =
     let same = c.deref-in-Capture-2.ensures ∙ sym c.deref-in-Capture.ensures in
     let stored = on_ok_by _ _ _ _ (ap (λ (x : Captured). lengthened c.section.new.self (instruction.Store x.name.now c.in-Capture.is_global ∷ [])) same) c.store.ensures.ok in
-    record { ok = seen (λ n. node_code n c.args.drops) _ _ _ _ _ (ap (λ x. capture_of x (nodes_of c.in-Capture.body.items) c.in-Capture.is_global) c.deref-in-Capture.ensures ∙ sym (ap node_of c.in-Capture.is ∙ view_capture c.in-Capture.is_global c.in-Capture.capture c.in-Capture.body)) (two_written _ _ _ _ _ _ c.in_ok-section-in-Capture.ensures.ok stored) }
+    record { ok = seen (λ n. node_code n c.args.drops) _ _ _ _ _ (ap (λ x. capture_of x (nodes_of c.in-Capture.body.items) c.in-Capture.is_global) c.deref-in-Capture.ensures ∙ sym (ap node_of c.in-Capture.is ∙ view_capture c.in-Capture.is_global c.in-Capture.captured c.in-Capture.body)) (two_written _ _ _ _ _ _ c.in_ok-section-in-Capture.ensures.ok stored) }
 
 pub node-returns-in_ok-section-in-FilterSection : goal.node-returns-in_ok-section-in-FilterSection
 node-returns-in_ok-section-in-FilterSection t c =

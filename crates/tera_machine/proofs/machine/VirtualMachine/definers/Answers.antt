@@ -14,4 +14,4 @@ returns-in-Some-clause-among g c =
     those_among c.args.self.now g.M.Limit.world c.in-Some.found c.definers.result c.requires c.in-Some.is c.definers.ensures.among
 
 pub returns-in-None-clause-among : goal.returns-in-None-clause-among
-returns-in-None-clause-among g c = c.none.ensures.among g.M.Limit.world.registry
+returns-in-None-clause-among g c = c.of_none.ensures.among g.M.Limit.world.registry

@@ -35,7 +35,7 @@ returns-clause-ok g c =
               opened = ap (λ (b : OpenBodies). b.opened) w.blocks-is ∙ left.opened;
               above = ap (λ (b : OpenBodies). b.above) w.blocks-is ∙ left.above;
               noted = subst of (sym (ap (λ (b : OpenBodies). b.wanted) w.blocks-is ∙ left.wanted)) over.noted;
-              included = ap (λ (b : OpenBodies). b.resolve_include) w.blocks-is ∙ left.resolve_include;
+              included = ap (λ (b : OpenBodies). b.included) w.blocks-is ∙ left.included;
               places = ap (λ (x : Configuration). x.places) w.configuration-is ∙ over.places;
               scopes = ap (λ (x : Configuration). x.scopes) w.configuration-is ∙ over.scopes;
             });
@@ -55,7 +55,7 @@ returns-clause-ok g c =
                 above = ap (λ (b : OpenBodies). b.above) w.blocks-is ∙ left.above;
                 wanted = ap (λ (b : OpenBodies). b.wanted) w.blocks-is ∙ left.wanted;
               },
-              ap (λ (b : OpenBodies). b.resolve_include) w.blocks-is ∙ w.pop.ensures ∙ ap one_fewer left.resolve_include,
+              ap (λ (b : OpenBodies). b.included) w.blocks-is ∙ w.pop.ensures ∙ ap one_fewer left.included,
             );
           })
       | in-Component+in_ok-end_component-in-Component w ↦
@@ -73,7 +73,7 @@ returns-clause-ok g c =
                 above = ap (λ (b : OpenBodies). b.above) w.blocks-is ∙ left.above;
                 wanted = ap (λ (b : OpenBodies). b.wanted) w.blocks-is ∙ left.wanted;
               },
-              ap (λ (b : OpenBodies). b.resolve_include) w.blocks-is ∙ w.end.ensures ∙ ap (ended_at w.in-Component.resolve_include) left.resolve_include,
+              ap (λ (b : OpenBodies). b.included) w.blocks-is ∙ w.end.ensures ∙ ap (ended_at w.in-Component.included) left.included,
             );
           })
     ]

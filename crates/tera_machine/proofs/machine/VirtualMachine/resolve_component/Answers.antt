@@ -10,4 +10,4 @@ returns-then-self-ge-MAX_DEPTH g c = λ blocks.
     let asked = c.args.asked in
     let place = place_at c.args.self.now (code_of c.args.here).file blocks c.args.configuration.now in
     too_deep g.M.Limit.world place asked.name.now (named_arguments asked.given) asked.body asked.span (variables_of c.args.configuration.now.scopes)
-    c.in-Some.start_component c.in-Some.ensures.defined c.in-Ok.context c.in-Ok.ensures c.too_deep.result c.if-self-ge-MAX_DEPTH.true c.too_deep.ensures
+    c.in-Some.component c.in-Some.ensures.defined c.in-Ok.context c.in-Ok.ensures c.too_deep_component.result c.if-self-ge-MAX_DEPTH.true c.too_deep_component.ensures

@@ -26,7 +26,7 @@ returns-then-has g c = λ conf.
     let name = c.args.asked.name.now in
     let place = place_at c.args.self.now (code_of c.args.here).file c.args.blocks.now conf in
     let leads = found_in w c.args.here name (Some c.in-Some.found) c.requires.linked (c.in-Some.ensures w.registry name (taken_before c.requires.takes)) in
-    let is = c.has.ensures ∙ among_by_position c.in-Some.found leads.among c.args.blocks.now.resolve_include.inner c.requires.resolve_include in
+    let is = c.has.ensures ∙ among_by_position c.in-Some.found leads.among c.args.blocks.now.included.inner c.requires.included in
     let file : c.file-then-has.result.now ≡ (code_of c.args.here).file = c.file-then-has.ensures ∙ ap (λ (l : Listing). l.file) c.chunk-then-has.ensures in
     let told = subst (λ (f : Name). Tells c.open_template.result (rendering_error (record { file = f; span = c.args.asked.span }))) file c.open_template.ensures in
     is_open w place name c.args.asked.span (config_of conf).run.vars c.in-Some.found leads c.open_template.result (sym is ∙ c.if-has.true) told
@@ -37,5 +37,5 @@ returns g c = λ conf.
     let name = c.args.asked.name.now in
     let place = place_at c.args.self.now (code_of c.args.here).file c.args.blocks.now conf in
     let leads = found_in w c.args.here name (Some c.in-Some.found) c.requires.linked (c.in-Some.ensures w.registry name (taken_before c.requires.takes)) in
-    let is = c.has.ensures ∙ among_by_position c.in-Some.found leads.among c.args.blocks.now.resolve_include.inner c.requires.resolve_include in
+    let is = c.has.ensures ∙ among_by_position c.in-Some.found leads.among c.args.blocks.now.included.inner c.requires.included in
     is_template w place name c.args.asked.span (config_of conf).run.vars c.in-Some.found leads (sym is ∙ c.if-has.false)

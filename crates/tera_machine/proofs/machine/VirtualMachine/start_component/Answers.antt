@@ -30,27 +30,27 @@ returns g c =
     let asked = c.into_inner-asked.result in
     let b0 = c.args.blocks.now in
     let c0 = c.args.configuration.now in
-    let m1 = record m { template = None; depth = c.in-Ok.resolve_component.depth } in
-    let b1 = record c.enter_apart-around.new.self { included = c.begin-resolve_include.new.self } in
+    let m1 = record m { template = None; depth = c.in-Ok.called.depth } in
+    let b1 = record c.enter_apart-around.new.self { included = c.begin-included.new.self } in
     let apart = c.enter_apart-around.ensures in
-    let none = c.begin-resolve_include.ensures.begins in
-    let begun-resolve_include = none ∙ ap begun apart.resolve_include in
-    let same = c.begin-resolve_include.ensures.start ∙ ap (λ (i : Nested FoundTemplate). length i.around) apart.resolve_include in
+    let none = c.begin-included.ensures.begins in
+    let begun-included = none ∙ ap begun apart.included in
+    let same = c.begin-included.ensures.start ∙ ap (λ (i : Nested FoundTemplate). length i.around) apart.included in
     let entry = call_entered w m file (component_request asked) (component_use asked) b0 c0 (c.in-Ok.ensures b0) m1 b1 refl refl refl (ap (λ (o : Nested OpenBlock). names_opened o.inner) apart.opened) apart.above (ap (λ (i : Nested FoundTemplate). names_in i.inner) none) c.in_ok-outer.ensures.begins in
-    subst (λ (a : ComponentRequest). Taken w m here c.args.next (component_request a) (component_use a) b0 c0 c.args.waiting.now m1 c.in-Ok.resolve_component.body b1 c.begin_component.new.self c.push.new.self) c.into_inner-asked.ensures (record {
+    subst (λ (a : ComponentRequest). Taken w m here c.args.next (component_request a) (component_use a) b0 c0 c.args.waiting.now m1 c.in-Ok.called.body b1 c.begin_component.new.self c.push.new.self) c.into_inner-asked.ensures (record {
       waits = record {
         body = c.args.here;
         at = c.args.next;
         above = b0.above;
         outer = c.in_ok-outer.outer;
-        back = back.Component c.enter_apart-around.result c.begin-resolve_include.result m.template m.depth asked.safe asked.span;
+        back = back.Component c.enter_apart-around.result c.begin-included.result m.template m.depth asked.safe asked.span;
       };
       is = c.in_ok-push.ensures.ok;
       machine = refl;
       around = refl;
       at = refl;
       enters = entry;
-      keeps = keeps_called w (place_at m file b0 c0) (component_request asked) (component_use asked) (λ v r. refl) b0 c0 entry c.in_ok-outer.ensures.begins refl apart.opened apart.before.0 apart.before.1 apart.wanted c.args.here c.args.next m.template m.depth c.begin-resolve_include.result same begun-resolve_include asked.safe asked.span refl;
+      keeps = keeps_called w (place_at m file b0 c0) (component_request asked) (component_use asked) (λ v r. refl) b0 c0 entry c.in_ok-outer.ensures.begins refl apart.opened apart.before.0 apart.before.1 apart.wanted c.args.here c.args.next m.template m.depth c.begin-included.result same begun-included asked.safe asked.span refl;
       linked = record { template = tt; text = c.requires.linked.text; components = c.requires.linked.components };
       belong = (
         (c.in-Ok.ensures b0).linked,

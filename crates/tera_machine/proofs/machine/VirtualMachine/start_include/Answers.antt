@@ -28,7 +28,7 @@ returns g c =
     let c0 = c.args.configuration.now in
     let apart = c.enter_apart-around.ensures in
     let is = c.in-Ok.ensures c0 in
-    let all = apart.resolve_include ∙ c.in_ok-push.ensures.ok in
+    let all = apart.included ∙ c.in_ok-push.ensures.ok in
     let m1 = record m { template = Some c.in-Ok.found } in
     let own : code_of c.body.result ≡ listing_of is.entry.0 is.entry.1.tree.nodes = c.body.ensures.code w.registry is.entry (subst (λ (r : Registry). entry_at c.in-Ok.found.name.now r.templates ≡ Some is.entry) (sym is.among) is.own) in
     let entry = include_entered w m file asked.name.now asked.span b0 c0 is own m1 c.enter_apart-around.new.self refl refl refl (ap (λ (o : Nested OpenBlock). names_opened o.inner) apart.opened) apart.above (ap (λ (i : Nested FoundTemplate). names_in i.inner) all) c.in_ok-outer.ensures.begins in

@@ -10,7 +10,7 @@ returns-in-Listed-clause-is c =
     let xs = c.in-Listed.field-1.items in
     let view : listed keys xs ≡ c.args.self.now = search rules in
     let fits : length keys ≡ length xs = search rules in
-    c.listed_named.ensures
+    c.are_keys_named.ensures
     ∙ sym (listed_named names keys xs fits)
     ∙ ap (are_named names) view
 

@@ -12,23 +12,23 @@ pub returns-in_err-link-clause-defined : goal.returns-in_err-link-clause-defined
 returns-in_err-link-clause-defined c = λ r name taken.
     absurd (nothing-taken c.args.self.now c.args.at (ComponentNamed name) c.in_err-link.ensures.exact taken)
 
-pub returns-in_err-component-clause-defined : goal.returns-in_err-component-clause-defined
-returns-in_err-component-clause-defined c = λ r name taken.
+pub returns-in_err-choice-clause-defined : goal.returns-in_err-choice-clause-defined
+returns-in_err-choice-clause-defined c = λ r name taken.
     let b = c.args.self.now in
     let ts = b.templates.now in
     let q = with_templates r ts in
-    let none : chosen ts.choices name ≡ None = call-leads (registry_in ts) ts.choices c.args.at name c.in_ok-link.link (leads-so b c.args.at (ComponentNamed name) c.in_ok-link.link c.in_ok-link.ensures.exact taken) ∙ sym c.in_err-component.ensures in
+    let none : chosen ts.choices name ≡ None = call-leads (registry_in ts) ts.choices c.args.at name c.in_ok-link.link (leads-so b c.args.at (ComponentNamed name) c.in_ok-link.link c.in_ok-link.ensures.exact taken) ∙ sym c.in_err-choice.ensures in
     let gone : component q name ≡ None = component-none q name (chosen ts.choices name) (chosen-in-all q ts.choices ts.chosen name) none in
-    rw c.from_residual-in_err-component.ensures gone
+    rw c.from_residual-in_err-choice.ensures gone
 
-pub defined_at-requires : goal.defined_at-requires
-defined_at-requires c =
+pub definition_at-requires : goal.definition_at-requires
+definition_at-requires c =
     let ts = c.args.self.now.templates.now in
     let p = c.in_ok-link.ensures.some in
-    choice-taken (registry_in ts) ts.choices p.0 c.in_ok-link.link c.in_ok-component.component p.1 c.in_ok-component.ensures
+    choice-taken (registry_in ts) ts.choices p.0 c.in_ok-link.link c.in_ok-choice.choice p.1 c.in_ok-choice.ensures
 
 pub returns-clause-defined : goal.returns-clause-defined
 returns-clause-defined c = λ r name taken.
     let b = c.args.self.now in
     let ts = b.templates.now in
-    c.defined_at.ensures.defined r name (call-leads (registry_in ts) ts.choices c.args.at name c.in_ok-link.link (leads-so b c.args.at (ComponentNamed name) c.in_ok-link.link c.in_ok-link.ensures.exact taken) ∙ sym c.in_ok-component.ensures)
+    c.definition_at.ensures.defined r name (call-leads (registry_in ts) ts.choices c.args.at name c.in_ok-link.link (leads-so b c.args.at (ComponentNamed name) c.in_ok-link.link c.in_ok-link.ensures.exact taken) ∙ sym c.in_ok-choice.ensures)

@@ -19,8 +19,8 @@ returns-in_err-position c = λ r name taken.
     let is : IsPosition (entries_of ts.all.items) None (resolve (registry_in ts) name) = subst (λ o. IsPosition (entries_of ts.all.items) o (resolve (registry_in ts) name)) (sym c.in_err-position.ensures) (include-leads (registry_in ts) ts.choices c.args.at name c.in_ok-link.link (leads-so b c.args.at (TemplateNamed name) c.in_ok-link.link c.in_ok-link.ensures.exact taken) ts.rises) in
     rw c.from_residual-in_err-position.ensures is
 
-pub found_at-requires : goal.found_at-requires
-found_at-requires c =
+pub found_template_at-requires : goal.found_template_at-requires
+found_template_at-requires c =
     let ts = c.args.self.now.templates.now in
     let p = c.in_ok-link.ensures.some in
     let lt = place-within (registry_in ts) ts.choices p.0 c.in_ok-link.link c.in_ok-position.position p.1 c.in_ok-position.ensures in
@@ -31,4 +31,4 @@ returns c = λ r name taken.
     let b = c.args.self.now in
     let ts = b.templates.now in
     let is : IsPosition (entries_of ts.all.items) (Some c.in_ok-position.position) (resolve (registry_in ts) name) = subst (λ o. IsPosition (entries_of ts.all.items) o (resolve (registry_in ts) name)) (sym c.in_ok-position.ensures) (include-leads (registry_in ts) ts.choices c.args.at name c.in_ok-link.link (leads-so b c.args.at (TemplateNamed name) c.in_ok-link.link c.in_ok-link.ensures.exact taken) ts.rises) in
-    c.found_at.ensures r name is
+    c.found_template_at.ensures r name is

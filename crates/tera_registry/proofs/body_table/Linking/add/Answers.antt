@@ -45,4 +45,4 @@ returns-clause-aboves g c = λ t at.
     let pushed = ap (map above_of) c.in_ok-push.ensures.items ∙ map-append above_of c.args.entries.now.items (c.in_ok-entry.field-0 ∷ []) in
     let blocks = c.in_ok-add_blocks.ensures.aboves (entry_of kept) here ∙ ap (λ l. one ++ map (above_block r (entry_of kept)) l) c.as_slice.ensures.value in
     let components = ap (λ l. two ++ map none l) c.as_slice-2.ensures.value in
-    on_ok_by c.add_all.result _ _ _ (aboves-added r kept old one two three (above_of c.in_ok-entry.field-0) c.in_ok-entry.ensures.next_definer pushed blocks components ∙ ap (λ u. old ++ map (above_in r) (blocks_in u)) same) c.add_all.ensures.aboves
+    on_ok_by c.add_all.result _ _ _ (aboves-added r kept old one two three (above_of c.in_ok-entry.field-0) c.in_ok-entry.ensures.above pushed blocks components ∙ ap (λ u. old ++ map (above_in r) (blocks_in u)) same) c.add_all.ensures.aboves

@@ -14,8 +14,8 @@ returns-in_err-choice-clause-defined c = λ r.
     let none : component q name ≡ None = component-none q name (chosen self.choices name) (chosen-in-all q self.choices self.chosen name) (sym c.in_err-choice.ensures.value) in
     rw c.from_residual.ensures none
 
-pub defined_at-requires : goal.defined_at-requires
-defined_at-requires c = record { name = c.args.name.now; is = sym c.in_ok-choice.ensures.value }
+pub definition_at-requires : goal.definition_at-requires
+definition_at-requires c = record { name = c.args.name.now; is = sym c.in_ok-choice.ensures.value }
 
 pub returns-clause-defined : goal.returns-clause-defined
-returns-clause-defined c = λ r. c.defined_at.ensures.defined r c.args.name.now (sym c.in_ok-choice.ensures.value)
+returns-clause-defined c = λ r. c.definition_at.ensures.defined r c.args.name.now (sym c.in_ok-choice.ensures.value)

@@ -29,8 +29,8 @@ by-body self engine body own first r tree file whose which of code kept none is 
 
 pub returns-then-code_has_missing_callee : goal.returns-then-code_has_missing_callee
 returns-then-code_has_missing_callee g c = λ r tree file of code kept none.
-    c.if-code_has_missing_callee.true ∙ by-body c.args.self.now (g.O.Objects.engine c.args.objects.now) c.deref-code.result.now c.as_slice.result.now true r tree file c.as_slice.ensures.value c.deref-code.ensures of code kept none (sym c.if-code_has_missing_callee.true ∙ c.code_lacks.ensures)
+    c.if-code_has_missing_callee.true ∙ by-body c.args.self.now (g.O.Objects.engine c.args.objects.now) c.deref-code.result.now c.as_slice.result.now true r tree file c.as_slice.ensures.value c.deref-code.ensures of code kept none (sym c.if-code_has_missing_callee.true ∙ c.code_has_missing_callee.ensures)
 
 pub returns-else-code_has_missing_callee : goal.returns-else-code_has_missing_callee
 returns-else-code_has_missing_callee g c = λ r tree file of code kept none.
-    c.any_has_missing_callee.ensures ∙ by-body c.args.self.now (g.O.Objects.engine c.args.objects.now) c.deref-code.result.now c.as_slice.result.now false r tree file c.as_slice.ensures.value c.deref-code.ensures of code kept none (sym c.if-code_has_missing_callee.false ∙ c.code_lacks.ensures)
+    c.any_has_missing_callee.ensures ∙ by-body c.args.self.now (g.O.Objects.engine c.args.objects.now) c.deref-code.result.now c.as_slice.result.now false r tree file c.as_slice.ensures.value c.deref-code.ensures of code kept none (sym c.if-code_has_missing_callee.false ∙ c.code_has_missing_callee.ensures)

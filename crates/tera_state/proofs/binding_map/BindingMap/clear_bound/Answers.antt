@@ -10,7 +10,7 @@ use Rattle.tera_state.proofs.binding_map.BindingMap.clear_bound.Goals.{then-not-
 pub loop-self-preserved : goal.loop-self-preserved
 loop-self-preserved c =
     let part = c.args.part in
-    popped part c.pop-last_layer.result c.loop-self.self c.pop-last_layer.new.self c.pop-last_layer.ensures.items
+    popped part c.pop-last.result c.loop-self.self c.pop-last.new.self c.pop-last.ensures.items
     (ap (λ (bs : List Binding). ends_in part (last_layer bs)) (sym (c.as_slice.ensures.value ∙ c.self.view_is)) ∙ sym c.ends_in.ensures ∙ c.loop-self-test.true)
     ∙ c.loop-self.invariant
 

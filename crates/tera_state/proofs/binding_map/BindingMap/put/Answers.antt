@@ -10,7 +10,7 @@ index_mut-requires c =
     let l = c.args.binding.layer in
     let n = c.args.binding.name in
     let h = ap (λ bs. position_from 0 bs f l n) c.self.view_is ∙ ap (λ m. position_from 0 c.args.self.now f l m) (sym c.as_name_ref.ensures) ∙ sym c.position.ensures ∙ c.in-Some.is in
-    let x = at_position 0 c.self.inside.items.items f l n c.in-Some.layer_at h in
+    let x = at_position 0 c.self.inside.items.items f l n c.in-Some.at h in
     search (rules, x.1)
 
 pub invariant_of-self : goal.invariant_of-self
@@ -20,9 +20,9 @@ invariant_of-self c =
     let l = c.args.binding.layer in
     let n = c.args.binding.name in
     let h = ap (λ bs. position_from 0 bs f l n) c.self.view_is ∙ ap (λ m. position_from 0 c.args.self.now f l m) (sym c.as_name_ref.ensures) ∙ sym c.position.ensures ∙ c.in-Some.is in
-    let m : c.in-Some.layer_at ≡ 0 + c.in-Some.layer_at = omega arith in
-    λ t. ordered-in_place items _ f l n c.args.binding.value c.in-Some.layer_at c.self.inside.places h
-    (bind-at 0 c.in-Some.layer_at items f l n c.args.binding.value c.index_mut.result.now (h ∙ ap Some m) c.index_mut.ensures.value)
+    let m : c.in-Some.at ≡ 0 + c.in-Some.at = omega arith in
+    λ t. ordered-in_place items _ f l n c.args.binding.value c.in-Some.at c.self.inside.places h
+    (bind-at 0 c.in-Some.at items f l n c.args.binding.value c.index_mut.result.now (h ∙ ap Some m) c.index_mut.ensures.value)
     (c.self.invariant t)
 
 pub returns-in-Some-clause-ok : goal.returns-in-Some-clause-ok
@@ -32,8 +32,8 @@ returns-in-Some-clause-ok c =
     let l = c.args.binding.layer in
     let n = c.args.binding.name in
     let h = ap (λ bs. position_from 0 bs f l n) c.self.view_is ∙ ap (λ m. position_from 0 c.args.self.now f l m) (sym c.as_name_ref.ensures) ∙ sym c.position.ensures ∙ c.in-Some.is in
-    let m : c.in-Some.layer_at ≡ 0 + c.in-Some.layer_at = omega arith in
-    bind-at 0 c.in-Some.layer_at items f l n c.args.binding.value c.index_mut.result.now (h ∙ ap Some m) c.index_mut.ensures.value
+    let m : c.in-Some.at ≡ 0 + c.in-Some.at = omega arith in
+    bind-at 0 c.in-Some.at items f l n c.args.binding.value c.index_mut.result.now (h ∙ ap Some m) c.index_mut.ensures.value
     ∙ ap (λ bs. with_binding bs f l n c.args.binding.value) c.self.view_is
 
 pub returns-in_ok-push-in-None-clause-ok : goal.returns-in_ok-push-in-None-clause-ok

@@ -10,7 +10,7 @@ index-requires c =
     let l = c.args.layer in
     let n = c.args.name.now in
     let h = ap (λ bs. position_from 0 bs f l n) c.self.view_is ∙ sym c.position.ensures ∙ c.in-Some.is in
-    let x = at_position 0 c.self.inside.items.items f l n c.in-Some.layer_at h in
+    let x = at_position 0 c.self.inside.items.items f l n c.in-Some.at h in
     search (rules, x.1)
 
 pub returns-in-Some : goal.returns-in-Some
@@ -19,8 +19,8 @@ returns-in-Some c =
     let l = c.args.layer in
     let n = c.args.name.now in
     let h = ap (λ bs. position_from 0 bs f l n) c.self.view_is ∙ sym c.position.ensures ∙ c.in-Some.is in
-    let m : c.in-Some.layer_at ≡ 0 + c.in-Some.layer_at = omega arith in
-    value-at 0 c.in-Some.layer_at c.self.inside.items.items f l n c.index.result.now (h ∙ ap Some m) c.index.ensures
+    let m : c.in-Some.at ≡ 0 + c.in-Some.at = omega arith in
+    value-at 0 c.in-Some.at c.self.inside.items.items f l n c.index.result.now (h ∙ ap Some m) c.index.ensures
     ∙ ap (λ bs. value_in bs f l n) c.self.view_is
 
 pub returns-in-None : goal.returns-in-None

@@ -13,7 +13,7 @@ returns-then-is_undefined c =
     let le : k ≤ length s.below = omega (arith, c.down.invariant.within, c.requires) in
     from_context n s.bindings s.below k c.at_height-includer.result.now some le c.at_height-includer.ensures (found_value c.in-Some.found) c.in-Some.ensures _
     (sym c.is_undefined.ensures ∙ c.if-is_undefined.true)
-    (c.found_from.ensures ∙ c.get.ensures ∙ ap (at_name n) c.context_at.ensures)
+    (c.found_value_of.ensures ∙ c.get.ensures ∙ ap (at_name n) c.context_at.ensures)
     ∙ sym (handed-is s k n) ∙ c.down.invariant.handed
 
 pub returns-in-Some : goal.returns-in-Some

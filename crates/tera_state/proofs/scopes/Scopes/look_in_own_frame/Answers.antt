@@ -9,14 +9,14 @@ returns-in-Template c =
     let fs = lower c.args.height c.args.self.now.below in
     let s = c.args.body.now.standing in
     from_beyond c.args.name.now c.args.self.now.bindings c.args.height c.args.body.now fs _ c.in-Unbound.ensures
-    (c.found_from.ensures ∙ c.get.ensures ∙ sym (whole_beyond c.args.name.now c.args.self.now.bindings s _ fs c.in-Template.is))
+    (c.found_value_of.ensures ∙ c.get.ensures ∙ sym (whole_beyond c.args.name.now c.args.self.now.bindings s _ fs c.in-Template.is))
 
 pub returns-in-Component : goal.returns-in-Component
 returns-in-Component c =
     let fs = lower c.args.height c.args.self.now.below in
     let s = c.args.body.now.standing in
     from_beyond c.args.name.now c.args.self.now.bindings c.args.height c.args.body.now fs _ c.in-Unbound.ensures
-    (c.found_from-in-Component.ensures ∙ c.look.ensures ∙ sym (called_beyond c.args.name.now c.args.self.now.bindings s _ fs c.in-Component.is))
+    (c.found_value_of-in-Component.ensures ∙ c.look.ensures ∙ sym (called_beyond c.args.name.now c.args.self.now.bindings s _ fs c.in-Component.is))
 
 pub returns-in_default : goal.returns-in_default
 returns-in_default c =

@@ -15,4 +15,4 @@ returns-in-Template c =
     let few : length s.frame.loops ≤ 1 = search rules in
     let none = sym (ap (λ j. in_innermost n (turns_of s.bindings j s.frame.loops)) c.requires.height ∙ c.requires.beyond) in
     from_beyond n s.bindings k s.frame fs _ (nothing_bound n s.bindings k s.frame unset few none)
-    (c.found_from.ensures ∙ c.get.ensures ∙ sym (whole_beyond n s.bindings s.frame.standing _ fs c.in-Template.is))
+    (c.found_value_of.ensures ∙ c.get.ensures ∙ sym (whole_beyond n s.bindings s.frame.standing _ fs c.in-Template.is))

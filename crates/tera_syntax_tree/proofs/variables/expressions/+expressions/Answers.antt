@@ -1,6 +1,6 @@
 use Rattle.std.proofs.Common.{◌∙◌, ap, refl, arith}
 use Rattle.std.proofs.lemmas.Grind.{common_steps}
-use Rattle.tera_syntax_tree.specs.declared.expression.FunctionCall.{out-Called}
+use Rattle.tera_syntax_tree.specs.declared.expression.FunctionCall.{out-FunctionCall}
 use Rattle.tera_syntax_tree.specs.declared.expression.ComponentTag.{out-ComponentTag}
 use Rattle.tera_syntax_tree.specs.View.{arguments_of}
 use Rattle.tera_syntax_tree.specs.Free.{arguments_free, ◌∪◌}
@@ -47,7 +47,7 @@ add_expression-returns-in-Filter t c =
 
 pub add_expression-returns-in-Call : goal.add_expression-returns-in-Call
 add_expression-returns-in-Call t c =
-    whole _ _ _ _ _ (call _ c.in-Call.called c.in-Call.span _ c.in-Call.is (c.as_slice-in-Call.ensures.value ∙ ap (λ x. (out-Called x).arguments.items) c.deref-in-Call.ensures)) c.add_arguments-in-Call.ensures
+    whole _ _ _ _ _ (call _ c.in-Call.called c.in-Call.span _ c.in-Call.is (c.as_slice-in-Call.ensures.value ∙ ap (λ x. (out-FunctionCall x).arguments.items) c.deref-in-Call.ensures)) c.add_arguments-in-Call.ensures
 
 pub add_expression-returns-in-Component : goal.add_expression-returns-in-Component
 add_expression-returns-in-Component t c =

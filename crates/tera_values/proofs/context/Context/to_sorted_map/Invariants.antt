@@ -4,4 +4,4 @@ use Rattle.tera_values.proofs.Contents.{IsPut}
 use Rattle.tera_values.proofs.context.Context.to_sorted_map.Given as goal
 
 abbrev pub invariant-loop-name : goal.invariant-loop-name
-invariant-loop-name l = IsPut l.name-iterator (texts l.to_sorted_map.entries) l.initial.name-iterator []
+invariant-loop-name l = IsPut l.name-iterator (texts l.ordered.entries) l.initial.name-iterator []

@@ -4,7 +4,7 @@ use Rattle.tera_values.specs.Val.{ktext}
 use Rattle.tera_values.specs.Access.{find}
 use Rattle.tera_operators.specs.Entries.{listed, is_at}
 use Rattle.tera_operators.proofs.Listing.{listed_none, found_last, found_before}
-use Rattle.tera_operators.proofs.map_entries.listed_at.Goals as goal
+use Rattle.tera_operators.proofs.map_entries.value_at_key.Goals as goal
 
 pub returns-then-is_at : goal.returns-then-is_at
 returns-then-is_at c =

@@ -3,7 +3,7 @@ use Rattle.std.proofs.lemmas.Option.{slice_get-map}
 use Rattle.tera_meaning.specs.Registry.{Entry}
 use Rattle.tera_registry.specs.Kept.{entry_of, entries_of}
 use Rattle.tera_registry.proofs.Kept.{entry-at-position}
-use Rattle.tera_registry.proofs.templates.Templates.found_at.Goals as goal
+use Rattle.tera_registry.proofs.templates.Templates.found_template_at.Goals as goal
 
 pub invariant_of-result : goal.invariant_of-result
 invariant_of-result c =

@@ -5,7 +5,7 @@ use Rattle.tera_syntax_tokens.specs.Cut.{endraw, ends_raw, trims_before, opening
 use Rattle.tera_syntax_tokens.specs.Found.{end_of, end_from, piece_of}
 use Rattle.tera_syntax_tokens.proofs.Openings.{opening_fits}
 use Rattle.tera_syntax_tokens.proofs.Raws.{raw_boundary, no_raw, a_raw}
-use Rattle.tera_syntax_tokens.proofs.raw.raw.Goals as goal
+use Rattle.tera_syntax_tokens.proofs.raw.raw_piece.Goals as goal
 
 pub split_at-requires : goal.split_at-requires
 split_at-requires c =

@@ -6,8 +6,8 @@ use Rattle.tera_values.specs.Val.{Val, KeyVal, kbool, undefined}
 use Rattle.tera_values.specs.View.{key_view}
 use Rattle.tera_components.specs.Definition.{kept_over}
 use Rattle.tera_components.proofs.LeftOver.{only_left, only_left-is, only_left-next}
-use Rattle.tera_components.proofs.definition.ComponentDefinition.others_of.Goals.{in-Some+in_ok-keep, in_default}
-use Rattle.tera_components.proofs.definition.ComponentDefinition.others_of.Goals as goal
+use Rattle.tera_components.proofs.definition.ComponentDefinition.rest_of_map.Goals.{in-Some+in_ok-keep, in_default}
+use Rattle.tera_components.proofs.definition.ComponentDefinition.rest_of_map.Goals as goal
 
 pub loop-position-preserved : goal.loop-position-preserved
 loop-position-preserved c =

@@ -7,8 +7,8 @@ use Rattle.tera_values.specs.View.{key_view}
 use Rattle.tera_built_ins.specs.Arguments.{◌▸◌}
 use Rattle.tera_built_ins.specs.Maps.{part_value}
 use Rattle.tera_built_ins.proofs.Steps.{map_take-more}
-use Rattle.tera_built_ins.proofs.maps.each_of.Goals.{in-Some+in_ok-part_value+in_ok-push, in_default}
-use Rattle.tera_built_ins.proofs.maps.each_of.Goals as goal
+use Rattle.tera_built_ins.proofs.maps.array_of_parts.Goals.{in-Some+in_ok-part_value+in_ok-push, in_default}
+use Rattle.tera_built_ins.proofs.maps.array_of_parts.Goals as goal
 
 pub returns : goal.returns
 returns c =

@@ -3,7 +3,7 @@ use Rattle.tera_registry.specs.Bodies.{listings}
 use Rattle.tera_registry.specs.Templates.{templates_of}
 use Rattle.tera_registry.proofs.Counted.{entry-within}
 use Rattle.tera_registry.proofs.Listed.{template-within, component-within, body-within, defined-so}
-use Rattle.tera_registry.proofs.templates.Templates.defined_at.Goals as goal
+use Rattle.tera_registry.proofs.templates.Templates.definition_at.Goals as goal
 
 pub index-requires : goal.index-requires
 index-requires c =

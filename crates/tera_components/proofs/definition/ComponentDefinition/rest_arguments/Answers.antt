@@ -3,7 +3,7 @@ use Rattle.tera_syntax_tree.specs.Blocks.{is_among}
 use Rattle.tera_values.specs.Named.{text_keys}
 use Rattle.tera_components.specs.Definition.{Definition, formal_names}
 use Rattle.tera_components.proofs.LeftOver.{none_left}
-use Rattle.tera_components.proofs.definition.ComponentDefinition.others.Goals as goal
+use Rattle.tera_components.proofs.definition.ComponentDefinition.rest_arguments.Goals as goal
 
 pub returns-then-are_among : goal.returns-then-are_among
 returns-then-are_among c = ap Ok (ap text_keys (none_left c.args.self.now c.args.given.now (λ n found.

@@ -2,7 +2,7 @@ use Rattle.std.proofs.Common.{◌≡◌, ◌≤◌, length, take}
 use Rattle.tera_values.specs.Val.{ktext}
 use Rattle.tera_values.specs.Access.{find}
 use Rattle.tera_operators.specs.Entries.{listed}
-use Rattle.tera_operators.proofs.map_entries.listed_at.Given as goal
+use Rattle.tera_operators.proofs.map_entries.value_at_key.Given as goal
 
 abbrev pub decreases-loop-left : goal.decreases-loop-left
 decreases-loop-left l = l.left

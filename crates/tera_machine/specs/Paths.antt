@@ -13,7 +13,7 @@ use Rattle.tera_machine.specs.Did.{Did, Goes, holding}
 use Rattle.tera_machine.specs.Effect.{Effected}
 use Rattle.tera_machine.specs.Together.{done, after_steps}
 
--- where a reading begins: its position, the count behind the instruction there, and the configuration
+-- where a reading begins: its position, the count after the instruction there, the configuration
 pub record Start : Type 0 where
   pub here : Here
   pub at : ℕ

@@ -196,10 +196,10 @@ impl<'c> Configuration<'c> {
         next: usize,
         instruction: &LentInstruction<'f>,
     ) -> FlowResult<'f>
-        requires { CanDo (effect (here_of O.engine machine.now file.now self.old) next instruction.now)
-            self.old }
-        ensures { Does (effect (here_of O.engine machine.now file.now self.old) next instruction.now)
-            self.old result self.new }
+        requires { CanDo (effect (here_of O.engine machine.now file.now self.old)
+            next instruction.now) self.old }
+        ensures { Does (effect (here_of O.engine machine.now file.now self.old)
+            next instruction.now) self.old result self.new }
     {
         if let Some((key, name, counts, size)) = instruction.as_start_loop() {
             return self.start_loop(machine, file, next, &key, &name, counts, size);

@@ -36,10 +36,10 @@ impl<'c> Configuration<'c> {
         next: usize,
         instruction: &Instruction<'f>,
     ) -> FlowResult<'f>
-        requires { CanDo (effect (here_of O.engine machine.now file.now self.old) next instruction.now)
-            self.old }
-        ensures { Does (effect (here_of O.engine machine.now file.now self.old) next instruction.now)
-            self.old result self.new }
+        requires { CanDo (effect (here_of O.engine machine.now file.now self.old)
+            next instruction.now) self.old }
+        ensures { Does (effect (here_of O.engine machine.now file.now self.old)
+            next instruction.now) self.old result self.new }
     {
         let alloc = machine.alloc;
         match instruction {

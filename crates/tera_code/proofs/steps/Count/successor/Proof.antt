@@ -1,4 +1,4 @@
--- `one_more` makes the empty struct. Its ghost field is the one that the clause names.
+-- `successor` makes the empty struct. Its ghost field is the one that the clause names.
 use Rattle.std.proofs.Common.{List, [], ◌∷◌, ◌+◌, refl}
 use Rattle.std.proofs.raw_atomic.Walks.{proved}
 use mir.Syntax.{named}
@@ -24,8 +24,8 @@ use Rattle.tera_code.proofs.steps.Count.successor.Code as code
 abbrev stayed : Stays f.ended.signature.params f.ended.kept
 stayed = (stay_none_ref (0 ∷ []) tt (plain (λ _. count.the_row)) yes, tt)
 
-pub one_more_spec : {M : Type 1} → statement M
-one_more_spec 𝓤 𝓛 𝓜 𝓡 wired =
+pub successor_spec : {M : Type 1} → statement M
+successor_spec 𝓤 𝓛 𝓜 𝓡 wired =
     let c = f.clauses 𝓛 𝓜.mem 𝓡.returns in
     proved 𝓛 f.ended stayed c 𝓜 𝓡 (Goes-none_ref 𝓛 1 (0 ∷ []) tt (plain (λ _. count.the_row)) yes, tt)
     f.Key.name code.function (code.unfolded 𝓤 𝓛.H 𝓜 𝓡 wired)

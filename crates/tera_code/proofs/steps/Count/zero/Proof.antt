@@ -1,4 +1,4 @@
--- `none` makes the empty struct. Its ghost field is the one that the clause names.
+-- `zero` makes the empty struct. Its ghost field is the one that the clause names.
 use Rattle.std.proofs.Common.{[], ◌∷◌, refl}
 use Rattle.std.proofs.raw_atomic.Walks.{proved}
 use mir.Val.{vstruct, vnil}
@@ -16,8 +16,8 @@ use Rattle.tera_code.specs.contracts.steps.Count.zero as f
 use Rattle.tera_code.proofs.steps.Count.zero.Statement.{statement}
 use Rattle.tera_code.proofs.steps.Count.zero.Code as code
 
-pub none_spec : {M : Type 1} → statement M
-none_spec 𝓤 𝓛 𝓜 𝓡 wired =
+pub zero_spec : {M : Type 1} → statement M
+zero_spec 𝓤 𝓛 𝓜 𝓡 wired =
     let c = f.clauses 𝓛 𝓜.mem 𝓡.returns in
     let made : count.the_row.Denot = record { number = 0 } in
     proved 𝓛 f.ended tt c 𝓜 𝓡 tt f.Key.name code.function (code.unfolded 𝓤 𝓛.H 𝓜 𝓡 wired)

@@ -1,4 +1,4 @@
--- `joined` makes the empty struct. Its ghost field is the one that the clause names.
+-- `join` makes the empty struct. Its ghost field is the one that the clause names.
 use Rattle.std.proofs.Common.{List, [], ◌∷◌, ◌++◌, refl}
 use Rattle.std.proofs.raw_atomic.Walks.{proved}
 use mir.Syntax.{named}
@@ -27,8 +27,8 @@ stayed = (
   (stay_none_ref (1 ∷ []) tt (plain (λ _. trace.the_row)) yes, tt),
 )
 
-pub joined_spec : {M : Type 1} → statement M
-joined_spec 𝓤 𝓛 𝓜 𝓡 wired =
+pub join_spec : {M : Type 1} → statement M
+join_spec 𝓤 𝓛 𝓜 𝓡 wired =
     let c = f.clauses 𝓛 𝓜.mem 𝓡.returns in
     proved 𝓛 f.ended stayed c 𝓜 𝓡 (
       Goes-none_ref 𝓛 2 (0 ∷ []) tt (plain (λ _. trace.the_row)) yes,

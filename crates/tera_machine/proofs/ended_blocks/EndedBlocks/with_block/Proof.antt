@@ -1,4 +1,4 @@
--- `with` makes the empty struct. Its ghost field is the one that the clause names.
+-- `with_block` makes the empty struct. Its ghost field is the one that the clause names.
 use Rattle.std.proofs.Common.{List, [], ◌∷◌, ◌++◌, ◌<◌, ◌^◌, length, refl}
 use Rattle.std.proofs.raw_atomic.Walks.{proved}
 use mir.Syntax.{named}
@@ -29,8 +29,8 @@ stayed = (
   (stay_none_ref (1 ∷ []) tt (plain (λ _. trace.the_row)) yes, (stay_none_slice (2 ∷ []) tt (plain (λ _. u8)) yes, (stay_none_slice (3 ∷ []) tt (plain (λ _. u8)) yes, tt))),
 )
 
-pub with_spec : {M : Type 1} → statement M
-with_spec 𝓤 𝓛 𝓜 𝓡 wired =
+pub with_block_spec : {M : Type 1} → statement M
+with_block_spec 𝓤 𝓛 𝓜 𝓡 wired =
     let c = f.clauses 𝓛 𝓜.mem 𝓡.returns in
     proved 𝓛 f.ended stayed c 𝓜 𝓡 (
       Goes-none_ref 𝓛 4 (0 ∷ []) tt (plain (λ _. trace.the_row)) yes,

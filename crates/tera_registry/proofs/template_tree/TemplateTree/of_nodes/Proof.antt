@@ -1,4 +1,4 @@
--- `of` makes the empty struct. Its ghost fields are those that the clauses name.
+-- `of_nodes` makes the empty struct. Its ghost fields are those that the clauses name.
 use Rattle.std.proofs.Common.{List, [], ◌∷◌, ◌<◌, ◌^◌, length, refl}
 use Rattle.std.proofs.raw_atomic.Walks.{proved}
 use mir.Syntax.{named}
@@ -29,8 +29,8 @@ stayed = (
   (stay_none_slice (2 ∷ []) tt (plain (λ κs. component.the_row (record { mir = named 3; lft = κs.1.1.1.0 }))) yes, tt),
 )
 
-pub of_spec : {M : Type 1} → statement M
-of_spec 𝓤 𝓛 𝓜 𝓡 wired =
+pub of_nodes_spec : {M : Type 1} → statement M
+of_nodes_spec 𝓤 𝓛 𝓜 𝓡 wired =
     let c = f.clauses 𝓛 𝓜.mem 𝓡.returns in
     proved 𝓛 f.ended stayed c 𝓜 𝓡 (
       Goes-none_slice 𝓛 4 (0 ∷ []) tt (plain (λ κs. node.the_row (record { mir = named 1; lft = κs.1.0 }))) yes,

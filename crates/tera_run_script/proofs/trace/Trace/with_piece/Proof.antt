@@ -1,4 +1,4 @@
--- `with` makes the empty struct. Its ghost fields are those that the clause names.
+-- `with_piece` makes the empty struct. Its ghost fields are those that the clause names.
 use Rattle.std.proofs.Common.{List, [], ◌∷◌, ◌++◌, ◌+◌, ◌<◌, ◌^◌, length, refl, w64}
 use Rattle.std.proofs.raw_atomic.Walks.{proved}
 use mir.Syntax.{named}
@@ -30,8 +30,8 @@ stayed = (
   (stay_none_slice (1 ∷ []) tt (plain (λ _. u8)) yes, (stay_none (λ _. usize) yes, tt)),
 )
 
-pub with_spec : {M : Type 1} → statement M
-with_spec 𝓤 𝓛 𝓜 𝓡 wired =
+pub with_piece_spec : {M : Type 1} → statement M
+with_piece_spec 𝓤 𝓛 𝓜 𝓡 wired =
     let c = f.clauses 𝓛 𝓜.mem 𝓡.returns in
     proved 𝓛 f.ended stayed c 𝓜 𝓡 (
       Goes-none_ref 𝓛 2 (0 ∷ []) tt (plain (λ _. trace.the_row)) yes,

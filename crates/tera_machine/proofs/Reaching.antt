@@ -1,11 +1,11 @@
 -- A path is read as its instructions say.
-use Rattle.std.proofs.Common.{◌≡◌, ℕ, suc, ◌+◌, ◌-◌, ◌∷◌, Bool, true, false, Some, None, Ok, refl, sym, ap, ap₂, ◌∙◌, subst, arith, Result}
+use Rattle.std.proofs.Common.{◌≡◌, ℕ, suc, ◌+◌, ◌-◌, ◌∷◌, Bool, true, false, Some, None, Ok, Err, refl, sym, ap, ap₂, ◌∙◌, subst, arith, Result}
 use Rattle.std.specs.Prelude.{slice_get, if◌then◌else◌}
 use Rattle.std.proofs.lemmas.Option.{slice_get_within}
 use Rattle.tera_errors.specs.declared.span.Span.{Span}
 use Rattle.tera_errors.specs.Site as site
 use Rattle.tera_errors.specs.Site.{Name}
-use Rattle.tera_errors.specs.Answer.{SeenError, Says}
+use Rattle.tera_errors.specs.Answer.{SeenError, Says, Lacks}
 use Rattle.tera_errors.specs.Fault.{rendering_error}
 use Rattle.tera_values.specs.Val.{Val}
 use Rattle.tera_values.specs.Access.{is_undefined}
@@ -20,6 +20,7 @@ use Rattle.tera_code.specs.declared.comparison.Comparison.{Comparison}
 use Rattle.tera_code.specs.declared.instruction.Instruction.{Instruction}
 use Rattle.tera_code.specs.declared.instruction.Instruction.TheVariants as instruction
 use Rattle.tera_code.specs.Code.{Code}
+use Rattle.tera_code.specs.Listing.{Listing}
 use Rattle.tera_state.specs.Engine.{Engine}
 use Rattle.tera_machine.specs.declared.machine.VirtualMachine.{VirtualMachine}
 use Rattle.tera_machine.specs.declared.configuration.Configuration.{Configuration}
@@ -27,8 +28,9 @@ use Rattle.tera_machine.specs.declared.machine.Flow as declared
 use Rattle.tera_machine.specs.Subject.{here_of}
 use Rattle.tera_machine.specs.Config.{Config, config_of}
 use Rattle.tera_machine.specs.Flow.{On}
-use Rattle.tera_machine.specs.Did.{Goes, Faults, holding, pushed, outcome, with_text}
+use Rattle.tera_machine.specs.Did.{Did, Goes, Faults, holding, pushed, outcome, with_text}
 use Rattle.tera_machine.specs.Effect.{effect, Effected, Does, put_out}
+use Rattle.tera_machine.specs.Dispatch.{CanRun, HasRun}
 use Rattle.tera_machine.specs.Together.{done, done_at, after_steps}
 use Rattle.tera_machine.specs.Paths.{Start, Stands, Comes, Reaches, Breaks, start_at, topped, constant_of, truth_of}
 use Rattle.tera_machine.proofs.Together.{done_behind, led_behind}
@@ -49,13 +51,33 @@ alone_stands {here} {code} {c} {at} {n} i e =
       led = subst (λ k. after_steps here code k at c ≡ Some (at, c)) none refl;
     }
 
--- and what it does is what all do that are done
-pub alone_does : {O : Type 0} (engine : O → Engine) (m : VirtualMachine O) (file file2 : Name) (c c2 : Configuration) (code : Code) (at n : ℕ) (i : Instruction) (r : Result declared.Flow SeenError) → slice_get code at ≡ Some i → file2 ≡ file → Does (effect (here_of engine m file2 c) (at + 1) i) c r c2 → Does (done (here_of engine m file c) code (suc (n - n)) at) c r c2
-alone_does engine m file file2 c c2 code at n i r e f d = (
-  subst (λ x. Effected x r (config_of c2)) (sym (alone_did (here_of engine m file c) code (config_of c) at n i e))
-      (subst (λ name. Effected (effect (here_of engine m name c) (at + 1) i (config_of c)) r (config_of c2)) f d.0),
-  d.1,
-)
+-- and what it does is what was done since: a dispatch that ran this instruction alone
+pub ran_so : {O : Type 0} (engine : O → Engine) (m : VirtualMachine O) (chunk : Listing) {at n n2 : ℕ} {i : Instruction} {file : Name} {before after : Configuration} {r r2 : Result declared.Flow SeenError} → slice_get chunk.code at ≡ Some i → file ≡ chunk.file → n2 ≡ n → r2 ≡ r → Does (effect (here_of engine m file before) (at + 1) i) before r after → HasRun engine m chunk at n before r2 at n2 after
+ran_so engine m chunk {at} {n} {n2} {i} {file} {before} {after} {r} {r2} e f k s d =
+    let here = here_of engine m chunk.file before in
+    let alone : Effected (done here chunk.code (suc (n - n)) at (config_of before)) r (config_of after) =
+    subst (λ x. Effected x r (config_of after)) (sym (alone_did here chunk.code (config_of before) at n i e))
+    (subst (λ name. Effected (effect (here_of engine m name before) (at + 1) i (config_of before)) r (config_of after)) f d.0) in
+    let ran : HasRun engine m chunk at n before r at n after = record { stands = alone_stands i e; does = (alone, d.1) } in
+    subst (λ x. HasRun engine m chunk at n before x at n2 after) (sym s) (subst (λ k2. HasRun engine m chunk at n before r at k2 after) (sym k) ran)
+
+-- the same of an instruction that could run, and is this one
+pub ran_alone : {O : Type 0} {engine : O → Engine} {m : VirtualMachine O} {chunk : Listing} {at n : ℕ} {i j : Instruction} {file : Name} {before after : Configuration} {r : Result declared.Flow SeenError} → CanRun engine m chunk at i before → i ≡ j → file ≡ chunk.file → Does (effect (here_of engine m file before) (at + 1) j) before r after → HasRun engine m chunk at n before r at n after
+ran_alone {engine = engine} {m = m} {chunk = chunk} q e f d =
+    ran_so engine m chunk (q.there ∙ ap (λ k. Some k) e) f refl refl d
+
+-- and where its result was made a flow
+pub ran_alone_after : {O : Type 0} {engine : O → Engine} {m : VirtualMachine O} {chunk : Listing} {at n : ℕ} {i j : Instruction} {before after : Configuration} {r r2 : Result declared.Flow SeenError} → CanRun engine m chunk at i before → i ≡ j → r2 ≡ r → Does (effect (here_of engine m chunk.file before) (at + 1) j) before r after → HasRun engine m chunk at n before r2 at n after
+ran_alone_after {engine = engine} {m = m} {chunk = chunk} q e s d =
+    ran_so engine m chunk (q.there ∙ ap (λ k. Some k) e) refl refl s d
+
+lacking : (d : Did) (x : SeenError) (c : Config) → Lacks x → Effected d (Err x) c
+lacking d None c h = tt
+lacking d (Some fault) c h = (let q : Some fault ≡ None = h in cc)
+
+-- where memory is refused nothing is said of it
+pub lacking_does : {f : Config → Did} {before : Configuration} {x : SeenError} → Lacks x → Does f before (Err x) before
+lacking_does {f} {before} {x} h = (lacking (f (config_of before)) x (config_of before) h, (refl, tt))
 
 -- a name alone: what it stands for lies on top
 pub begins : {here : Here} {code : Code} {c : Config} {at n : ℕ} {name sought : site.Name} {span : Span} {found : Val} {a : Evaluated} → slice_get code at ≡ Some (instruction.LoadName name span) → sought ≡ name → found ≡ look sought here.around c.run.vars → a ≡ record { value = found; span = span } → Reaches (start_at here at n c) code at n a

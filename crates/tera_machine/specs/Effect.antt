@@ -290,6 +290,11 @@ IsSmall (Goes c (Ask q u)) = Unit {0}
 IsSmall (Faults fault) = Unit {0}
 IsSmall Sticks = Unit {0}
 
+-- it can be done there: the operands are there, and the code can count the jump
+pub record CanDo (does : Config → Did) (before : Configuration) : Type 0 where
+  pub ready : IsReady does before
+  pub small : IsSmall (does (config_of before))
+
 -- the turns to come of the loops that are open around the body that runs, in its state
 abbrev pub beneath_in : {A : Type 0} → List A → List (List Turn) → List (List Turn)
 beneath_in places coming = drop (length places) coming

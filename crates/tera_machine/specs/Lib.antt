@@ -8,6 +8,7 @@ pub mod Effect
 pub mod Exec
 pub mod Together
 pub mod Paths
+pub mod Dispatch
 pub mod Advance
 pub mod OpenThings
 pub mod Included

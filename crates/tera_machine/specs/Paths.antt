@@ -9,11 +9,11 @@ use Rattle.tera_code.specs.Code.{Code}
 use Rattle.tera_meaning.specs.Here.{Here}
 use Rattle.tera_machine.specs.Config.{Config}
 use Rattle.tera_machine.specs.Flow.{On}
-use Rattle.tera_machine.specs.Did.{Goes, holding}
+use Rattle.tera_machine.specs.Did.{Did, Goes, holding}
 use Rattle.tera_machine.specs.Effect.{Effected}
 use Rattle.tera_machine.specs.Together.{done, after_steps}
 
--- where a reading begins: its position, the count behind the instruction there, and the configuration
+-- where a reading begins: its position, the count after the instruction there, the configuration
 pub record Start : Type 0 where
   pub here : Here
   pub at : ℕ
@@ -22,6 +22,10 @@ pub record Start : Type 0 where
 
 abbrev pub start_at : Here → ℕ → ℕ → Config → Start
 start_at here at n c = record { here = here; at = at; count = n; config = c }
+
+-- what the instructions did that were handed out since, up to this count
+abbrev pub done_since : Start → Code → ℕ → Did
+done_since s code n = done s.here code (suc (n - s.count)) s.at s.config
 
 -- at the last instruction that was handed out, to which all before it led
 pub record Stands (s : Start) (code : Code) (at n : ℕ) : Type 0 where
@@ -33,7 +37,7 @@ pub record Stands (s : Start) (code : Code) (at n : ℕ) : Type 0 where
 -- and that one went on too, with this configuration
 pub record Comes (s : Start) (code : Code) (at n : ℕ) (c : Config) : Type 0 where
   pub stands : Stands s code at n
-  pub did : done s.here code (suc (n - s.count)) s.at s.config ≡ Goes c On
+  pub did : done_since s code n ≡ Goes c On
 
 -- with this operand on top
 abbrev pub topped : Evaluated → Config → Config
@@ -45,8 +49,7 @@ Reaches s code at n a = Comes s code at n (topped a s.config)
 
 -- and the last one did not go on, for this reason
 abbrev pub Breaks : Start → Code → ℕ → SeenError → Type 0
-Breaks s code n e =
-    (c : Config) → Effected (done s.here code (suc (n - s.count)) s.at s.config) (Err e) c
+Breaks s code n e = (c : Config) → Effected (done_since s code n) (Err e) c
 
 -- the constant with which an operand is compared
 abbrev pub constant_of : Comparison → Evaluated

@@ -1,12 +1,12 @@
-// One instruction, as it lies in its chunk.
-ghost use Rattle.std.specs.Prelude.{◌≡◌, ◌∷◌, ◌+◌, ◌-◌, ◌<◌, ◌^◌, OnOk, Some, suc, length, slice_get};
+// The dispatch: runs the instruction at a position of a chunk. Each function asks for some instructions and leaves any other to the
+// next function; what is run most is asked for first. They are functions of their own because the locals of a function are zeroed
+// where it begins, also where it is inlined: an instruction pays only for the questions that were asked before it.
+ghost use Rattle.std.specs.Prelude.{◌≡◌, ◌∷◌, OnOk};
 ghost use Rattle.tera_errors.specs.Prelude.{Site};
 ghost use Rattle.tera_values.specs.Prelude.{int};
-ghost use Rattle.tera_machine.specs.Config.{config_of};
 ghost use Rattle.tera_machine.specs.Did.{pushed};
-ghost use Rattle.tera_machine.specs.Effect.{effect, IsReady, IsSmall, Does, continue_after, continue_if_written, name_written, name_loaded};
-ghost use Rattle.tera_machine.specs.Together.{done};
-ghost use Rattle.tera_machine.specs.Paths.{Stands, start_at};
+ghost use Rattle.tera_machine.specs.Dispatch.{CanRun, HasRun};
+ghost use Rattle.tera_machine.specs.Effect.{effect, CanDo, Does, continue_after, continue_if_written, name_written, name_loaded};
 ghost use Rattle.tera_machine.specs.Subject.{here_of};
 ghost use Rattle.tera_state.specs.Prelude.{around_of};
 
@@ -21,11 +21,13 @@ use tera_state::{Objects, Stack};
 use tera_values::{Error, Name, Shape, Span, Value};
 
 impl<'c> Configuration<'c> {
-    /// Does the instruction that stands at this position, and what is done together with it. The position becomes that of the last of
-    /// them. What is run most is told apart first, and needs no more of the instruction than its parts: all else stays out of the
-    /// loop, whose frame is small. A budget that is spent ends the run, as want of memory does.
+    /// Runs the instruction at a position, and those after it that are run together with it. The position becomes that of the last
+    /// of them. A budget that is spent ends the run, as want of memory does.
+    ///
+    /// What is asked for here needs no more of the instruction than its parts. All else stays out of the loop that calls this, so
+    /// that the frame of that loop is small.
     #[inline(always)]
-    pub(crate) fn perform<'f, O: Objects, T: Tally>(
+    pub(crate) fn run_instruction<'f, O: Objects, T: Tally>(
         &mut self,
         machine: &VirtualMachine<'_, O>,
         chunk: &Chunk,
@@ -33,16 +35,9 @@ impl<'c> Configuration<'c> {
         instruction: &LentInstruction<'f>,
         steps: &mut Steps<T>,
     ) -> FlowResult<'f>
-        requires there { slice_get chunk.now.code at.old ≡ Some instruction.now }
-        requires few { length chunk.now.code < 2 ^ 64 }
-        requires ready { IsReady (effect (here_of O.engine machine.now chunk.now.file self.old)
-            (at.old + 1) instruction.now) self.old }
-        requires small { IsSmall (effect (here_of O.engine machine.now chunk.now.file self.old)
-            (at.old + 1) instruction.now (config_of self.old)) }
-        ensures stands { Stands (start_at (here_of O.engine machine.now chunk.now.file self.old)
-            at.old steps.old (config_of self.old)) chunk.now.code at.new steps.new }
-        ensures does { Does (done (here_of O.engine machine.now chunk.now.file self.old)
-            chunk.now.code (suc (steps.new - steps.old)) at.old) self.old result self.new }
+        requires { CanRun O.engine machine.now chunk.now at.old instruction.now self.old }
+        ensures { HasRun O.engine machine.now chunk.now at.old steps.old self.old
+            result at.new steps.new self.new }
     {
         if steps.are_spent() {
             return Err(Error::out_of_memory());
@@ -51,7 +46,7 @@ impl<'c> Configuration<'c> {
             return continue_after(self.write_text(text));
         }
         if let Some((name, span)) = instruction.as_written_name() {
-            return self.write_name_fast(machine, chunk.file(), name, span);
+            return self.write_name_turn_first(machine, chunk.file(), name, span);
         }
         if instruction.is_next_turn() {
             return self.next_turn();
@@ -65,13 +60,13 @@ impl<'c> Configuration<'c> {
         if let Some((number, span)) = instruction.as_integer() {
             return self.load_integer_and_apply(machine, chunk, at, number, span, steps);
         }
-        self.perform_on(machine, chunk, at, instruction, steps)
+        self.run_name_or_other(machine, chunk, at, instruction, steps)
     }
 
-    // The rest of these, whose flow is handed out in memory. It is asked for behind the others, so that no place for it is
-    // made ready in their turns.
+    /// Runs an instruction that loads a name, and leaves any other to `run_operation`. From here on a flow is handed out in memory,
+    /// and the place for it is not made ready before.
     #[inline(always)]
-    fn perform_on<'f, O: Objects, T: Tally>(
+    fn run_name_or_other<'f, O: Objects, T: Tally>(
         &mut self,
         machine: &VirtualMachine<'_, O>,
         chunk: &Chunk,
@@ -79,29 +74,27 @@ impl<'c> Configuration<'c> {
         instruction: &LentInstruction<'f>,
         steps: &mut Steps<T>,
     ) -> FlowResult<'f>
-        requires there { slice_get chunk.now.code at.old ≡ Some instruction.now }
-        requires few { length chunk.now.code < 2 ^ 64 }
-        requires ready { IsReady (effect (here_of O.engine machine.now chunk.now.file self.old)
-            (at.old + 1) instruction.now) self.old }
-        requires small { IsSmall (effect (here_of O.engine machine.now chunk.now.file self.old)
-            (at.old + 1) instruction.now (config_of self.old)) }
-        ensures stands { Stands (start_at (here_of O.engine machine.now chunk.now.file self.old)
-            at.old steps.old (config_of self.old)) chunk.now.code at.new steps.new }
-        ensures does { Does (done (here_of O.engine machine.now chunk.now.file self.old)
-            chunk.now.code (suc (steps.new - steps.old)) at.old) self.old result self.new }
+        requires { CanRun O.engine machine.now chunk.now at.old instruction.now self.old }
+        ensures { HasRun O.engine machine.now chunk.now at.old steps.old self.old
+            result at.new steps.new self.new }
     {
         match instruction.as_loaded_name() {
             Some((name, span)) if chunk.reads_on_at(*at) => {
                 self.run_name_ahead(machine, chunk, at, name, span, steps)
             }
-            Some((name, span)) => continue_after(self.load_name_fast(machine.alloc, name, span)),
-            None => self.step(machine, chunk, at, instruction, steps),
+            Some((name, span)) => continue_after(self.load_name_turn_first(
+                machine.alloc,
+                name,
+                span,
+            )),
+            None => self.run_operation(machine, chunk, at, instruction, steps),
         }
     }
 
-    /// The same for an instruction that loads no name.
+    /// Runs an operator, a write of the topmost operand, an attribute or a store, and leaves any other instruction to
+    /// `run_constant_or_built_in`.
     #[inline(always)]
-    fn step<'f, O: Objects, T: Tally>(
+    fn run_operation<'f, O: Objects, T: Tally>(
         &mut self,
         machine: &VirtualMachine<'_, O>,
         chunk: &Chunk,
@@ -109,16 +102,9 @@ impl<'c> Configuration<'c> {
         instruction: &LentInstruction<'f>,
         steps: &mut Steps<T>,
     ) -> FlowResult<'f>
-        requires there { slice_get chunk.now.code at.old ≡ Some instruction.now }
-        requires few { length chunk.now.code < 2 ^ 64 }
-        requires ready { IsReady (effect (here_of O.engine machine.now chunk.now.file self.old)
-            (at.old + 1) instruction.now) self.old }
-        requires small { IsSmall (effect (here_of O.engine machine.now chunk.now.file self.old)
-            (at.old + 1) instruction.now (config_of self.old)) }
-        ensures stands { Stands (start_at (here_of O.engine machine.now chunk.now.file self.old)
-            at.old steps.old (config_of self.old)) chunk.now.code at.new steps.new }
-        ensures does { Does (done (here_of O.engine machine.now chunk.now.file self.old)
-            chunk.now.code (suc (steps.new - steps.old)) at.old) self.old result self.new }
+        requires { CanRun O.engine machine.now chunk.now at.old instruction.now self.old }
+        ensures { HasRun O.engine machine.now chunk.now at.old steps.old self.old
+            result at.new steps.new self.new }
     {
         if let Some((operator, span)) = instruction.as_binary() {
             return self.operate(machine.alloc, chunk.file(), operator, span);
@@ -132,12 +118,13 @@ impl<'c> Configuration<'c> {
         if let Some((name, is_global)) = instruction.as_store() {
             return continue_after(self.store(machine.alloc, name, is_global));
         }
-        self.evaluate(machine, chunk, at, instruction, steps)
+        self.run_constant_or_built_in(machine, chunk, at, instruction, steps)
     }
 
-    /// The same for what else an expression is made of: choices, constants, and filters and tests that are built in.
+    /// Runs a constant, a jump of a choice, a negation, or a filter or a test that is built in, and leaves any other instruction to
+    /// `run_request`.
     #[inline(always)]
-    fn evaluate<'f, O: Objects, T: Tally>(
+    fn run_constant_or_built_in<'f, O: Objects, T: Tally>(
         &mut self,
         machine: &VirtualMachine<'_, O>,
         chunk: &Chunk,
@@ -145,16 +132,9 @@ impl<'c> Configuration<'c> {
         instruction: &LentInstruction<'f>,
         steps: &mut Steps<T>,
     ) -> FlowResult<'f>
-        requires there { slice_get chunk.now.code at.old ≡ Some instruction.now }
-        requires few { length chunk.now.code < 2 ^ 64 }
-        requires ready { IsReady (effect (here_of O.engine machine.now chunk.now.file self.old)
-            (at.old + 1) instruction.now) self.old }
-        requires small { IsSmall (effect (here_of O.engine machine.now chunk.now.file self.old)
-            (at.old + 1) instruction.now (config_of self.old)) }
-        ensures stands { Stands (start_at (here_of O.engine machine.now chunk.now.file self.old)
-            at.old steps.old (config_of self.old)) chunk.now.code at.new steps.new }
-        ensures does { Does (done (here_of O.engine machine.now chunk.now.file self.old)
-            chunk.now.code (suc (steps.new - steps.old)) at.old) self.old result self.new }
+        requires { CanRun O.engine machine.now chunk.now at.old instruction.now self.old }
+        ensures { HasRun O.engine machine.now chunk.now at.old steps.old self.old
+            result at.new steps.new self.new }
     {
         if let Some((constant, span)) = instruction.as_constant() {
             return self.load_constant(&constant, span);
@@ -174,12 +154,12 @@ impl<'c> Configuration<'c> {
         if let Some((test, name, names, span)) = instruction.as_built_in_test() {
             return self.apply_test(machine, chunk.file(), test, &name, &names, span);
         }
-        self.take(machine, chunk, at, instruction, steps)
+        self.run_request(machine, chunk, at, instruction, steps)
     }
 
-    /// The same for what takes another body, and for what is left.
+    /// Hands out the request of an instruction that takes another body, and leaves any other to `run_loop_or_rare`.
     #[inline(always)]
-    fn take<'f, O: Objects, T: Tally>(
+    fn run_request<'f, O: Objects, T: Tally>(
         &mut self,
         machine: &VirtualMachine<'_, O>,
         chunk: &Chunk,
@@ -187,16 +167,9 @@ impl<'c> Configuration<'c> {
         instruction: &LentInstruction<'f>,
         steps: &mut Steps<T>,
     ) -> FlowResult<'f>
-        requires there { slice_get chunk.now.code at.old ≡ Some instruction.now }
-        requires few { length chunk.now.code < 2 ^ 64 }
-        requires ready { IsReady (effect (here_of O.engine machine.now chunk.now.file self.old)
-            (at.old + 1) instruction.now) self.old }
-        requires small { IsSmall (effect (here_of O.engine machine.now chunk.now.file self.old)
-            (at.old + 1) instruction.now (config_of self.old)) }
-        ensures stands { Stands (start_at (here_of O.engine machine.now chunk.now.file self.old)
-            at.old steps.old (config_of self.old)) chunk.now.code at.new steps.new }
-        ensures does { Does (done (here_of O.engine machine.now chunk.now.file self.old)
-            chunk.now.code (suc (steps.new - steps.old)) at.old) self.old result self.new }
+        requires { CanRun O.engine machine.now chunk.now at.old instruction.now self.old }
+        ensures { HasRun O.engine machine.now chunk.now at.old steps.old self.old
+            result at.new steps.new self.new }
     {
         if let Some((name, span)) = instruction.as_block() {
             return Ok(Flow::Call(Request::Block(name, span)));
@@ -210,24 +183,23 @@ impl<'c> Configuration<'c> {
         if let Some((name, keys, has_body, span)) = instruction.as_component() {
             return self.request_component(machine, chunk.file(), name, &keys, has_body, span);
         }
-        self.start_or_execute(machine, chunk, at, instruction, steps)
+        self.run_loop_or_rare(machine, chunk, at, instruction, steps)
     }
 
-    // What is left: the two ends of a loop, of which a table has one in each row, and then what is unpacked whole.
+    /// Runs the start or the end of a loop, which a table has in each row, and unpacks any other instruction whole. This stays a
+    /// call, so that what it needs room for is not made ready for the instructions that are run more.
     #[inline(never)]
-    pub(crate) fn execute_unpacked<'f, O: Objects>(
+    pub(crate) fn run_rare<'f, O: Objects>(
         &mut self,
         machine: &VirtualMachine<'_, O>,
         file: &str,
         next: usize,
         instruction: &LentInstruction<'f>,
     ) -> FlowResult<'f>
-        requires ready { IsReady (effect (here_of O.engine machine.now file.now self.old)
+        requires { CanDo (effect (here_of O.engine machine.now file.now self.old)
             next instruction.now) self.old }
-        requires small { IsSmall (effect (here_of O.engine machine.now file.now self.old)
-            next instruction.now (config_of self.old)) }
-        ensures { Does (effect (here_of O.engine machine.now file.now self.old) next instruction.now)
-            self.old result self.new }
+        ensures { Does (effect (here_of O.engine machine.now file.now self.old)
+            next instruction.now) self.old result self.new }
     {
         if let Some((key, name, counts, size)) = instruction.as_start_loop() {
             return self.start_loop(machine, file, next, &key, &name, counts, size);
@@ -235,7 +207,7 @@ impl<'c> Configuration<'c> {
         if let Some(skip) = instruction.as_end_loop() {
             return self.end_loop(skip);
         }
-        self.execute(machine, file, next, &instruction.unpack())
+        self.run_unpacked(machine, file, next, &instruction.unpack())
     }
 
     #[inline(never)]
@@ -246,9 +218,9 @@ impl<'c> Configuration<'c> {
         self.operands.push(Operand::new(value, span))
     }
 
-    // What it does always goes on at the next instruction, so that no flow is handed out by the call.
+    // Writes what a name stands for. After a write it always goes on at the next instruction, so that the call hands out no flow.
     #[inline(always)]
-    fn write_name_fast<'f, O: Objects>(
+    fn write_name_turn_first<'f, O: Objects>(
         &mut self,
         machine: &VirtualMachine<'_, O>,
         file: &str,
@@ -258,12 +230,14 @@ impl<'c> Configuration<'c> {
         ensures { Does (name_written (here_of O.engine machine.now file.now self.old) name.now span)
             self.old result self.new }
     {
-        let is_put = self.append_name_fast(machine, name)?;
+        let is_put = self.append_name_turn_first(machine, name)?;
         continue_if_written(machine.alloc, file, span, is_put)
     }
 
+    // Appends what a name stands for, and tells whether it did: what is undefined is not written. The innermost turn is asked
+    // first, which binds most names that the body of a loop writes.
     #[inline(never)]
-    fn append_name_fast<O: Objects>(
+    fn append_name_turn_first<O: Objects>(
         &mut self,
         machine: &VirtualMachine<'_, O>,
         name: &Name,
@@ -279,13 +253,13 @@ impl<'c> Configuration<'c> {
                     .append_value(machine.alloc, machine.objects, machine.autoescape, value)?;
                 Ok(true)
             }
-            None => self.append_name_slow(machine, name),
+            None => self.append_name_from_all_scopes(machine, name),
         }
     }
 
-    // The same of a name that the innermost turn may not bind. What it looks for takes no room where the turn does.
+    // The same by the whole look-up. It stays a call, so that the look-up takes no room where the turn binds the name.
     #[inline(never)]
-    fn append_name_slow<O: Objects>(
+    fn append_name_from_all_scopes<O: Objects>(
         &mut self,
         machine: &VirtualMachine<'_, O>,
         name: &Name,
@@ -297,21 +271,31 @@ impl<'c> Configuration<'c> {
         self.append_name(machine, &name.as_name_ref())
     }
 
-    // A name that nothing is read with.
+    // Pushes what a name stands for, of which no attribute is taken. The innermost turn is asked first.
     #[inline(never)]
-    fn load_name_fast(&mut self, alloc: Global, name: &Name, span: Span) -> Result<(), AllocError>
+    fn load_name_turn_first(
+        &mut self,
+        alloc: Global,
+        name: &Name,
+        span: Span,
+    ) -> Result<(), AllocError>
         ensures { Does (name_loaded (around_of self.old.scopes) name.now span)
             self.old (continue_after result) self.new }
     {
         match self.scopes.value_of(name) {
             Some(value) => push_again(&mut self.operands, value, span),
-            None => self.load_name_slow(alloc, name, span),
+            None => self.load_name_from_all_scopes(alloc, name, span),
         }
     }
 
-    // The same of a name that the innermost turn may not bind.
+    // The same by the whole look-up.
     #[inline(never)]
-    fn load_name_slow(&mut self, alloc: Global, name: &Name, span: Span) -> Result<(), AllocError>
+    fn load_name_from_all_scopes(
+        &mut self,
+        alloc: Global,
+        name: &Name,
+        span: Span,
+    ) -> Result<(), AllocError>
         ensures { Does (name_loaded (around_of self.old.scopes) name.now span)
             self.old (continue_after result) self.new }
     {

@@ -25,21 +25,21 @@ use tera_values::{Error, Name, NameRef, Span, TeraResult, Value};
 pub(crate) type WriteResult = Result<bool, AllocError>;
 
 impl<'c> Configuration<'c> {
-    /// Does what the instruction says, which stands in this file's text in front of the next position, and tells where to go on.
+    /// Runs the instruction, which stands in this file's text before the next position, and tells where to go on. Each form has its
+    /// line here, also those that the dispatch asks for before and that never come. Without them each function of the dispatch would
+    /// have to promise to the next one which forms are left.
     #[inline(always)]
-    pub(crate) fn execute<'f, O: Objects>(
+    pub(crate) fn run_unpacked<'f, O: Objects>(
         &mut self,
         machine: &VirtualMachine<'_, O>,
         file: &str,
         next: usize,
         instruction: &Instruction<'f>,
     ) -> FlowResult<'f>
-        requires ready { IsReady (effect (here_of O.engine machine.now file.now self.old)
+        requires { CanDo (effect (here_of O.engine machine.now file.now self.old)
             next instruction.now) self.old }
-        requires small { IsSmall (effect (here_of O.engine machine.now file.now self.old)
-            next instruction.now (config_of self.old)) }
-        ensures { Does (effect (here_of O.engine machine.now file.now self.old) next instruction.now)
-            self.old result self.new }
+        ensures { Does (effect (here_of O.engine machine.now file.now self.old)
+            next instruction.now) self.old result self.new }
     {
         let alloc = machine.alloc;
         match instruction {

@@ -1,5 +1,5 @@
-// Integers, with which what stands behind is done at once.
-ghost use Rattle.std.specs.Prelude.{◌≡◌, ◌≢◌, ◌-◌, ◌<◌, ◌^◌, [], Ok, Some, suc, length, slice_get, IfSome, IsTrue};
+// Integers, and the instructions after them that are run together with them.
+ghost use Rattle.std.specs.Prelude.{◌≡◌, ◌≢◌, [], Ok, IfSome, IsTrue};
 ghost use Rattle.tera_errors.specs.Site as site;
 ghost use Rattle.tera_values.specs.Prelude.{int};
 ghost use Rattle.tera_values.specs.Val as val;
@@ -9,11 +9,9 @@ ghost use Rattle.tera_code.specs.Integers.{with_integer};
 ghost use Rattle.tera_code.specs.declared.instruction.Instruction.TheVariants as instruction;
 ghost use Rattle.tera_state.specs.Prelude.{around_of, variables_of};
 ghost use Rattle.tera_state.specs.Scope.{look};
-ghost use Rattle.tera_machine.specs.Config.{config_of};
 ghost use Rattle.tera_machine.specs.Effect.{Does, on_one};
-ghost use Rattle.tera_machine.specs.Subject.{here_of};
-ghost use Rattle.tera_machine.specs.Together.{done};
-ghost use Rattle.tera_machine.specs.Paths.{Stands, start_at, truth_of};
+ghost use Rattle.tera_machine.specs.Dispatch.{HasInstruction, HasRun};
+ghost use Rattle.tera_machine.specs.Paths.{truth_of};
 
 use crate::configuration::Configuration;
 use crate::instructions::continue_after;
@@ -26,8 +24,8 @@ use tera_syntax_tree::BinaryOperator;
 use tera_values::{Name, Shape, Span, Value};
 
 impl<'c> Configuration<'c> {
-    /// Reads a name that is used up behind it. Where an integer is loaded there, it is told apart by a look at that instruction
-    /// alone.
+    /// Runs the instruction that loads a name, and those after it that use the value up. A look at the next instruction tells
+    /// whether that loads an integer.
     #[inline(always)]
     pub(crate) fn run_name_ahead<'f, O: Objects, T: Tally>(
         &mut self,
@@ -38,13 +36,9 @@ impl<'c> Configuration<'c> {
         span: Span,
         steps: &mut Steps<T>,
     ) -> FlowResult<'f>
-        requires there { slice_get chunk.now.code at.old
-            ≡ Some (instruction.LoadName name.now span) }
-        requires few { length chunk.now.code < 2 ^ 64 }
-        ensures stands { Stands (start_at (here_of O.engine machine.now chunk.now.file self.old)
-            at.old steps.old (config_of self.old)) chunk.now.code at.new steps.new }
-        ensures does { Does (done (here_of O.engine machine.now chunk.now.file self.old)
-            chunk.now.code (suc (steps.new - steps.old)) at.old) self.old result self.new }
+        requires { HasInstruction chunk.now.code at.old (instruction.LoadName name.now span) }
+        ensures { HasRun O.engine machine.now chunk.now at.old steps.old self.old
+            result at.new steps.new self.new }
     {
         if chunk.loads_integer_at(*at + 1) {
             self.run_name_before_integer(machine, chunk, at, name, span, steps)
@@ -53,8 +47,8 @@ impl<'c> Configuration<'c> {
         }
     }
 
-    /// Reads a name, behind which an integer is loaded. An integer that the innermost turn binds to the name is compared with
-    /// that one where it lies, if this is what stands there.
+    /// Runs the instruction that loads a name, after which an integer is loaded. Where the innermost turn binds an integer to the
+    /// name, and the two are compared, they are compared where they lie.
     #[inline(never)]
     pub(crate) fn run_name_before_integer<'f, O: Objects, T: Tally>(
         &mut self,
@@ -65,13 +59,9 @@ impl<'c> Configuration<'c> {
         span: Span,
         steps: &mut Steps<T>,
     ) -> FlowResult<'f>
-        requires there { slice_get chunk.now.code at.old
-            ≡ Some (instruction.LoadName name.now span) }
-        requires few { length chunk.now.code < 2 ^ 64 }
-        ensures stands { Stands (start_at (here_of O.engine machine.now chunk.now.file self.old)
-            at.old steps.old (config_of self.old)) chunk.now.code at.new steps.new }
-        ensures does { Does (done (here_of O.engine machine.now chunk.now.file self.old)
-            chunk.now.code (suc (steps.new - steps.old)) at.old) self.old result self.new }
+        requires { HasInstruction chunk.now.code at.old (instruction.LoadName name.now span) }
+        ensures { HasRun O.engine machine.now chunk.now at.old steps.old self.old
+            result at.new steps.new self.new }
     {
         match self.integer_of(name) {
             Some(number) => match chunk.integer_comparison_at(*at + 1, steps) {
@@ -98,7 +88,8 @@ impl<'c> Configuration<'c> {
         }
     }
 
-    /// Puts an integer on top of the operands, or applies the operator to it that stands behind.
+    /// Runs the instruction that loads an integer, and the operator after it, if one stands there and has an operand on its left:
+    /// then the integer is not pushed.
     #[inline(always)]
     pub(crate) fn load_integer_and_apply<'f, O: Objects, T: Tally>(
         &mut self,
@@ -109,13 +100,10 @@ impl<'c> Configuration<'c> {
         span: Span,
         steps: &mut Steps<T>,
     ) -> FlowResult<'f>
-        requires there { slice_get chunk.now.code at.old
-            ≡ Some (instruction.LoadConst (val.int number) span) }
-        requires few { length chunk.now.code < 2 ^ 64 }
-        ensures stands { Stands (start_at (here_of O.engine machine.now chunk.now.file self.old)
-            at.old steps.old (config_of self.old)) chunk.now.code at.new steps.new }
-        ensures does { Does (done (here_of O.engine machine.now chunk.now.file self.old)
-            chunk.now.code (suc (steps.new - steps.old)) at.old) self.old result self.new }
+        requires { HasInstruction chunk.now.code at.old
+            (instruction.LoadConst (val.int number) span) }
+        ensures { HasRun O.engine machine.now chunk.now at.old steps.old self.old
+            result at.new steps.new self.new }
     {
         if self.operands.is_empty() {
             return continue_after(self.load_integer(number, span));

@@ -57,10 +57,8 @@ impl<'c> Configuration<'c> {
         counts: bool,
         size: usize,
     ) -> FlowResult<'f>
-        requires ready { IsReady (loop_started (here_of O.engine machine.now file.now self.old)
+        requires { CanDo (loop_started (here_of O.engine machine.now file.now self.old)
             next key.now name.now counts size) self.old }
-        requires small { IsSmall (loop_started (here_of O.engine machine.now file.now self.old)
-            next key.now name.now counts size (config_of self.old)) }
         ensures { Does (loop_started (here_of O.engine machine.now file.now self.old)
             next key.now name.now counts size) self.old result self.new }
     {

@@ -292,7 +292,7 @@ impl<'t, O: Objects> VirtualMachine<'t, O> {
                 continue;
             };
             let mut last = at;
-            let flow = match configuration.perform(
+            let flow = match configuration.run_instruction(
                 &machine,
                 chunk,
                 &mut last,
@@ -342,8 +342,8 @@ impl<'t, O: Objects> VirtualMachine<'t, O> {
         requires belong { Belong M.world self.old here blocks.old }
         requires takes { TakesRequested here next request }
         ensures { TakesBody M.world self.old here.entry next (request_of request.entry)
-            (use_of request.entry) blocks.old configuration.old waiting.old self.new result blocks.new
-            configuration.new waiting.new }
+            (use_of request.entry) blocks.old configuration.old waiting.old self.new result
+            blocks.new configuration.new waiting.new }
     {
         match request {
             Request::Block(name, span) => {
@@ -378,8 +378,8 @@ impl<'t, O: Objects> VirtualMachine<'t, O> {
         requires linked { IsLinked self.now M.world }
         requires belong { Belong M.world self.now here blocks.old }
         ensures { TakesBody M.world self.now here.entry next (block_request asked.entry)
-            (block_use asked.entry) blocks.old configuration.old waiting.old self.now result blocks.new
-            configuration.new waiting.new }
+            (block_use asked.entry) blocks.old configuration.old waiting.old self.now result
+            blocks.new configuration.new waiting.new }
     {
         let inside = match self.enter::<M>(here.chunk(), asked, blocks, configuration) {
             Ok(inside) => inside,
@@ -455,8 +455,8 @@ impl<'t, O: Objects> VirtualMachine<'t, O> {
         requires belong { Belong M.world self.old here blocks.old }
         requires takes { TakesBefore here next (ComponentNamed asked.value.name.now) }
         ensures { TakesBody M.world self.old here.entry next (component_request asked.entry.value)
-            (component_use asked.entry.value) blocks.old configuration.old waiting.old self.new result
-            blocks.new configuration.new waiting.new }
+            (component_use asked.entry.value) blocks.old configuration.old waiting.old self.new
+            result blocks.new configuration.new waiting.new }
     {
         let asked = Box::into_inner(asked);
         let safe = asked.safe;
@@ -504,8 +504,8 @@ impl<'t, O: Objects> VirtualMachine<'t, O> {
         requires waits { waiting.old ≢ [] }
         requires text { (config_of configuration.old).captures ≢ [] }
         requires state { HasOuter waiting.old configuration.old }
-        ensures ok { IfOk result (λ behind. Resumes self.old waiting.old blocks.old configuration.old
-            behind self.new waiting.new blocks.new configuration.new) }
+        ensures ok { IfOk result (λ behind. Resumes self.old waiting.old blocks.old
+            configuration.old behind self.new waiting.new blocks.new configuration.new) }
         ensures lacks { IfErr result Lacks }
     {
         let Waiting {

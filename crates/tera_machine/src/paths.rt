@@ -1,5 +1,5 @@
-// Names and the attributes behind them, read where they lie.
-ghost use Rattle.std.specs.Prelude.{◌≡◌, ◌+◌, ◌-◌, ◌<◌, ◌^◌, Some, suc, length, slice_get, IfOk, IfErr, IfSome, IfNone, IsTrue, unwrap_or};
+// Names and the attributes after them, read where they lie.
+ghost use Rattle.std.specs.Prelude.{◌≡◌, IfOk, IfErr, IfSome, IfNone, IsTrue, unwrap_or};
 ghost use Rattle.tera_errors.specs.Prelude.{Gives};
 ghost use Rattle.tera_code.specs.declared.instruction.Instruction.TheVariants as instruction;
 ghost use Rattle.tera_values.specs.Prelude.{undefined};
@@ -12,8 +12,8 @@ ghost use Rattle.tera_machine.specs.Flow.{flow_of};
 ghost use Rattle.tera_machine.specs.Did.{Goes};
 ghost use Rattle.tera_machine.specs.Effect.{Effected, Does, put_out};
 ghost use Rattle.tera_machine.specs.Subject.{here_of};
-ghost use Rattle.tera_machine.specs.Together.{done};
-ghost use Rattle.tera_machine.specs.Paths.{Start, Stands, Comes, Reaches, Breaks, start_at, topped, truth_of};
+ghost use Rattle.tera_machine.specs.Dispatch.{HasInstruction, HasRun, HasRunFrom, IsPosition};
+ghost use Rattle.tera_machine.specs.Paths.{Start, Stands, Comes, Reaches, Breaks, done_since, topped, truth_of};
 
 use crate::configuration::Configuration;
 use crate::instructions::undefined_fault;
@@ -40,7 +40,7 @@ fn lent_operand<'a>(found: &FoundValue<'a>, span: Span) -> Option<LentOperand<'a
     }
 }
 
-/// Takes the attributes of an operand that the instructions behind a position take, each of what the one before gave. The position
+/// Takes the attributes of an operand that the instructions after a position take, each of what the one before gave. The position
 /// becomes that of the last of these instructions. That holds wherever the reading of the path began.
 fn attributes<'v, T: Tally>(
     alloc: Global,
@@ -49,8 +49,7 @@ fn attributes<'v, T: Tally>(
     reached: LentOperand<'v>,
     steps: &mut Steps<T>,
 ) -> TeraResult<LentOperand<'v>>
-    requires few { length chunk.now.code < 2 ^ 64 }
-    requires there { at.old < length chunk.now.code }
+    requires { IsPosition chunk.now.code at.old }
     ensures stands { (s : Start) → s.here.file ≡ chunk.now.file →
         Reaches s chunk.now.code at.old steps.old reached.entry →
         Stands s chunk.now.code at.new steps.new }
@@ -73,8 +72,8 @@ fn attributes<'v, T: Tally>(
     }
 }
 
-/// Where it goes on if the instruction behind a position tests the topmost operand, which is this one. The position becomes that of this
-/// instruction.
+/// Where it goes on if the instruction after a position tests the topmost operand, which is this one. The position becomes that of
+/// this instruction.
 #[inline(always)]
 fn branch_on<'f, T: Tally>(
     chunk: &Chunk,
@@ -82,15 +81,13 @@ fn branch_on<'f, T: Tally>(
     top: &LentOperand<'_>,
     steps: &mut Steps<T>,
 ) -> Option<Flow<'f>>
-    requires few { length chunk.now.code < 2 ^ 64 }
-    requires there { at.old < length chunk.now.code }
+    requires { IsPosition chunk.now.code at.old }
     ensures stands { IfSome result (λ _. (s : Start) (c : Config) →
         Comes s chunk.now.code at.old steps.old c →
         Stands s chunk.now.code at.new steps.new) }
     ensures goes { IfSome result (λ flow. (s : Start) (c : Config) →
         Comes s chunk.now.code at.old steps.old (topped top.now c) →
-        done s.here chunk.now.code (suc (steps.new - s.count)) s.at s.config
-        ≡ Goes c (flow_of flow)) }
+        done_since s chunk.now.code steps.new ≡ Goes c (flow_of flow)) }
     ensures stays { IfNone result ((at.new ≡ at.old) × (steps.new ≡ steps.old)) }
 {
     let skip = chunk.pop_jump_if_false_at(*at + 1, steps)?;
@@ -145,9 +142,9 @@ fn compare_with_constant(
 }
 
 impl<'c> Configuration<'c> {
-    /// Does the instruction that loads a name, those behind it that take attributes, and one that puts the last of them out or
-    /// tests it, or those that compare it with a constant and test that. Nothing is copied or pushed on the way, and only what is
-    /// not used up at once is put on the operands.
+    /// Runs the instruction that loads a name, and those after it that use the value up: attributes that are taken of it, and then
+    /// a write, a test, or a comparison with a constant and a test of that. Nothing is copied or pushed on the way. Only a value
+    /// that no such instruction uses up is pushed on the operands.
     #[inline(never)]
     pub(crate) fn run_path<'f, O: Objects, T: Tally>(
         &mut self,
@@ -158,13 +155,9 @@ impl<'c> Configuration<'c> {
         span: Span,
         steps: &mut Steps<T>,
     ) -> FlowResult<'f>
-        requires there { slice_get chunk.now.code at.old
-            ≡ Some (instruction.LoadName name.now span) }
-        requires few { length chunk.now.code < 2 ^ 64 }
-        ensures stands { Stands (start_at (here_of O.engine machine.now chunk.now.file self.old)
-            at.old steps.old (config_of self.old)) chunk.now.code at.new steps.new }
-        ensures does { Does (done (here_of O.engine machine.now chunk.now.file self.old)
-            chunk.now.code (suc (steps.new - steps.old)) at.old) self.old result self.new }
+        requires { HasInstruction chunk.now.code at.old (instruction.LoadName name.now span) }
+        ensures { HasRun O.engine machine.now chunk.now at.old steps.old self.old
+            result at.new steps.new self.new }
     {
         let alloc = machine.alloc;
         let found = self.scopes.look(&name.as_name_ref());
@@ -194,7 +187,8 @@ impl<'c> Configuration<'c> {
         }
     }
 
-    /// The same with an operand of its own that was read.
+    /// Runs the instructions that use an operand up, which was made and is lent by nobody: a comparison with a constant, and a
+    /// test.
     fn finish_path<'f, T: Tally>(
         &mut self,
         alloc: Global,
@@ -203,15 +197,10 @@ impl<'c> Configuration<'c> {
         operand: Operand,
         steps: &mut Steps<T>,
     ) -> FlowResult<'f>
-        requires few { length chunk.now.code < 2 ^ 64 }
-        requires there { at.old < length chunk.now.code }
-        ensures stands { (s : Start) → s.here.file ≡ chunk.now.file →
+        requires { IsPosition chunk.now.code at.old }
+        ensures { (s : Start) → s.here.file ≡ chunk.now.file →
             Comes s chunk.now.code at.old steps.old (topped operand (config_of self.old)) →
-            Stands s chunk.now.code at.new steps.new }
-        ensures does { (s : Start) → s.here.file ≡ chunk.now.file →
-            Comes s chunk.now.code at.old steps.old (topped operand (config_of self.old)) →
-            Does (λ _. done s.here chunk.now.code (suc (steps.new - s.count)) s.at s.config)
-            self.old result self.new }
+            HasRunFrom s chunk.now.code self.old result at.new steps.new self.new }
     {
         let Some(comparison) = chunk.comparison_at(*at + 1, steps) else {
             return self.test_or_push(chunk, at, operand, steps);
@@ -223,8 +212,8 @@ impl<'c> Configuration<'c> {
         }
     }
 
-    /// Tests an operand where the instruction behind a position does so, and else puts it on top of the others. The position becomes that
-    /// of the last instruction that is done.
+    /// Tests an operand where the instruction after a position does so, and else pushes it. The position becomes that of the last
+    /// instruction that was run.
     #[inline(always)]
     pub(crate) fn test_or_push<'f, T: Tally>(
         &mut self,
@@ -233,14 +222,12 @@ impl<'c> Configuration<'c> {
         operand: Operand,
         steps: &mut Steps<T>,
     ) -> FlowResult<'f>
-        requires few { length chunk.now.code < 2 ^ 64 }
-        requires there { at.old < length chunk.now.code }
+        requires { IsPosition chunk.now.code at.old }
         ensures stands { (s : Start) (c : Config) → Comes s chunk.now.code at.old steps.old c →
             Stands s chunk.now.code at.new steps.new }
         ensures does { (s : Start) →
             Comes s chunk.now.code at.old steps.old (topped operand (config_of self.old)) →
-            Does (λ _. done s.here chunk.now.code (suc (steps.new - s.count)) s.at s.config)
-            self.old result self.new }
+            Does (λ _. done_since s chunk.now.code steps.new) self.old result self.new }
     {
         if let Some(flow) = branch_on(chunk, at, &operand.lend(), steps) {
             return Ok(flow);

@@ -8,11 +8,11 @@ ghost use Rattle.tera_meaning.specs.Here.{Here};
 ghost use Rattle.tera_operators.specs.Operand.{Evaluated};
 ghost use Rattle.tera_state.specs.Items.{unkeyed};
 ghost use Rattle.tera_state.specs.Scope.{look};
-ghost use Rattle.tera_machine.specs.Config.{Config, config_of};
+ghost use Rattle.tera_machine.specs.Config.{Config};
 ghost use Rattle.tera_machine.specs.Flow.{On};
 ghost use Rattle.tera_machine.specs.Did.{Goes};
-ghost use Rattle.tera_machine.specs.Effect.{effect, Effected, Does, IsReady, IsSmall};
-ghost use Rattle.tera_machine.specs.Subject.{here_of};
+ghost use Rattle.tera_machine.specs.Dispatch.{CanRun, HasRun};
+ghost use Rattle.tera_machine.specs.Effect.{effect, Effected};
 ghost use Rattle.tera_machine.specs.Together.{done};
 ghost use Rattle.tera_machine.specs.Paths.{Start, Stands, Breaks, start_at, topped};
 ghost use Rattle.tera_machine.specs.Printing.{IsAt, Before, Behind, PrintsItems, at_items, items_called, saying};
@@ -210,9 +210,10 @@ fn write_loop<'f, O: Objects, T: Tally>(
 }
 
 impl<'c> Configuration<'c> {
-    /// Does what the instruction says, and where it opens a loop whose body puts out texts and items alone, all of that loop.
+    /// Runs a whole loop where the instruction opens one whose body writes texts and items alone, and leaves any other instruction
+    /// to `run_rare`.
     #[inline(never)]
-    pub(crate) fn start_or_execute<'f, O: Objects, T: Tally>(
+    pub(crate) fn run_loop_or_rare<'f, O: Objects, T: Tally>(
         &mut self,
         machine: &VirtualMachine<'_, O>,
         chunk: &Chunk,
@@ -220,26 +221,19 @@ impl<'c> Configuration<'c> {
         opening: &LentInstruction<'f>,
         steps: &mut Steps<T>,
     ) -> FlowResult<'f>
-        requires there { slice_get chunk.now.code at.old ≡ Some opening.now }
-        requires few { length chunk.now.code < 2 ^ 64 }
-        requires ready { IsReady (effect (here_of O.engine machine.now chunk.now.file self.old)
-            (at.old + 1) opening.now) self.old }
-        requires small { IsSmall (effect (here_of O.engine machine.now chunk.now.file self.old)
-            (at.old + 1) opening.now (config_of self.old)) }
-        ensures stands { Stands (start_at (here_of O.engine machine.now chunk.now.file self.old)
-            at.old steps.old (config_of self.old)) chunk.now.code at.new steps.new }
-        ensures does { Does (done (here_of O.engine machine.now chunk.now.file self.old)
-            chunk.now.code (suc (steps.new - steps.old)) at.old) self.old result self.new }
+        requires { CanRun O.engine machine.now chunk.now at.old opening.now self.old }
+        ensures { HasRun O.engine machine.now chunk.now at.old steps.old self.old
+            result at.new steps.new self.new }
     {
         let Some(size) = chunk.printing_loop_at(*at) else {
-            return self.execute_unpacked(machine, chunk.file(), *at + 1, opening);
+            return self.run_rare(machine, chunk.file(), *at + 1, opening);
         };
         // Nothing else opens such a loop.
         let Some((_, _, _, _)) = opening.as_start_loop() else {
             return Ok(Flow::Out);
         };
         let Some(items) = items_of(self.operands.top().value()) else {
-            return self.execute_unpacked(machine, chunk.file(), *at + 1, opening);
+            return self.run_rare(machine, chunk.file(), *at + 1, opening);
         };
         let texts = &mut self.texts;
         let printed = write_loop(texts, machine, chunk, opening, size, items, at, steps);

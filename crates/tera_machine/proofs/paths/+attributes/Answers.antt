@@ -14,7 +14,7 @@ if_err (Err e) f p = f e p
 
 pub attributes-requires : goal.attributes-requires
 attributes-requires g t c κs within =
-    (omega (arith, slice_get_within c.args.chunk.now.code (c.args.at.now + 1) _ c.in-Some.ensures.means, c.decreases), (within, (c.requires.few, slice_get_within c.args.chunk.now.code (c.args.at.now + 1) _ c.in-Some.ensures.means)))
+    (omega (arith, slice_get_within c.args.chunk.now.code (c.args.at.now + 1) _ c.in-Some.ensures.means, c.decreases), (within, record { few = c.requires.few; there = slice_get_within c.args.chunk.now.code (c.args.at.now + 1) _ c.in-Some.ensures.means }))
 
 pub returns-in-Ok-clause-stands : goal.returns-in-Ok-clause-stands
 returns-in-Ok-clause-stands g t c = λ s f r.

@@ -11,19 +11,16 @@ come : (g : Over) (c : In-Ok g) (s : Start) → s.here.file ≡ c.args.chunk.now
 come g c s f r =
     compared_comes (config_of c.args.self.now) (subst (λ a. Comes s c.args.chunk.now.code c.args.at.now c.args.steps.now (topped a (config_of c.args.self.now))) (sym c.lend.ensures) r) c.in-Some.ensures.means refl c.in-Some.ensures.count (c.file.ensures ∙ sym f) c.in-Ok.ensures
 
-pub returns-in-Ok-clause-stands : goal.returns-in-Ok-clause-stands
-returns-in-Ok-clause-stands g c = λ s f r.
-    c.test_or_push-in-Ok.ensures.stands s _ (come g (goal.at.returns-in-Ok-clause-stands g c).In-Ok s f r)
+pub returns-in-Ok : goal.returns-in-Ok
+returns-in-Ok g c = λ s f r.
+    let top = come g (goal.at.returns-in-Ok g c).In-Ok s f r in
+    record { stands = c.test_or_push-in-Ok.ensures.stands s _ top; does = c.test_or_push-in-Ok.ensures.does s top }
 
-pub returns-in-Ok-clause-does : goal.returns-in-Ok-clause-does
-returns-in-Ok-clause-does g c = λ s f r.
-    c.test_or_push-in-Ok.ensures.does s (come g (goal.at.returns-in-Ok-clause-does g c).In-Ok s f r)
-
-pub returns-clause-stands : goal.returns-clause-stands
-returns-clause-stands g c = λ s f r. two_more r c.in-Some.ensures.means refl c.in-Some.ensures.count
-
-pub returns-clause-does : goal.returns-clause-does
-returns-clause-does g c = λ s f r. (
-  compared_breaks (config_of c.args.self.now) (subst (λ a. Comes s c.args.chunk.now.code c.args.at.now c.args.steps.now (topped a (config_of c.args.self.now))) (sym c.lend.ensures) r) c.in-Some.ensures.means refl c.in-Some.ensures.count (c.file.ensures ∙ sym f) c.in-Err.error c.in-Err.ensures _,
-  (refl, tt),
-)
+pub returns : goal.returns
+returns g c = λ s f r. record {
+  stands = two_more r c.in-Some.ensures.means refl c.in-Some.ensures.count;
+  does = (
+    compared_breaks (config_of c.args.self.now) (subst (λ a. Comes s c.args.chunk.now.code c.args.at.now c.args.steps.now (topped a (config_of c.args.self.now))) (sym c.lend.ensures) r) c.in-Some.ensures.means refl c.in-Some.ensures.count (c.file.ensures ∙ sym f) c.in-Err.error c.in-Err.ensures _,
+    (refl, tt),
+  );
+}

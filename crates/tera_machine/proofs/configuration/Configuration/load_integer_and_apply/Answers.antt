@@ -6,13 +6,13 @@ use Rattle.tera_operators.specs.Operators.{binary_of}
 use Rattle.tera_machine.specs.Config.{config_of}
 use Rattle.tera_machine.specs.Effect.{Effected, on_one}
 use Rattle.tera_machine.specs.Subject.{here_of}
-use Rattle.tera_machine.specs.Paths.{Stands, start_at}
 use Rattle.tera_machine.proofs.Loaded.{loads, two_is_one}
-use Rattle.tera_machine.proofs.Reaching.{alone_stands, more, more_did}
+use Rattle.tera_machine.proofs.Reaching.{more, more_did, ran_so}
 use Rattle.tera_machine.proofs.configuration.Configuration.load_integer_and_apply.Goals as goal
 
-pub returns-then-is_empty-clause-stands : goal.returns-then-is_empty-clause-stands
-returns-then-is_empty-clause-stands g c = alone_stands _ c.requires.there
+pub returns-then-is_empty : goal.returns-then-is_empty
+returns-then-is_empty g c =
+    ran_so g.O.Objects.engine c.args.machine.now c.args.chunk.now c.requires.there refl refl c.continue_after.ensures c.load_integer.ensures
 
 pub overflow_add-at : goal.overflow_add-at
 overflow_add-at g c = omega (arith, slice_get_within c.args.chunk.now.code c.args.at.now _ c.requires.there, c.requires.few)
@@ -20,17 +20,17 @@ overflow_add-at g c = omega (arith, slice_get_within c.args.chunk.now.code c.arg
 pub overflow_add-at-in-Some : goal.overflow_add-at-in-Some
 overflow_add-at-in-Some g c = omega (arith, slice_get_within c.args.chunk.now.code c.args.at.now _ c.requires.there, c.requires.few)
 
-pub returns-in-Some-clause-stands : goal.returns-in-Some-clause-stands
-returns-in-Some-clause-stands g c = more (loads c.requires.there) c.in-Some.ensures.means refl c.in-Some.ensures.count
-
-pub returns-in-Some-clause-does : goal.returns-in-Some-clause-does
-returns-in-Some-clause-does g c =
+pub returns-in-Some : goal.returns-in-Some
+returns-in-Some g c =
     let old = config_of c.args.self.now in
     let here = here_of g.O.Objects.engine c.args.machine.now c.args.chunk.now.file c.args.self.now in
     let did = more_did (loads {here = here} {c = old} {n = c.args.steps.now} c.requires.there) c.in-Some.ensures.means refl c.in-Some.ensures.count ∙ two_is_one (λ a b. binary_of c.args.chunk.now.file c.in-Some.operator a b c.in-Some.whole) (record { value = int c.args.number; span = c.args.span }) old.operands old in
     let put = subst (λ f. Effected (on_one (λ a. binary_of f c.in-Some.operator a (record { value = int c.args.number; span = c.args.span }) c.in-Some.whole) old.operands old) c.operate_with.result (config_of c.operate_with.new.self)) c.file.ensures (subst (λ z. Effected (on_one (λ a. binary_of c.file.result.now c.in-Some.operator a (record { value = int z; span = c.args.span }) c.in-Some.whole) old.operands old) c.operate_with.result (config_of c.operate_with.new.self)) (to_z-of_z w64 c.args.number c.ranges.number) c.operate_with.ensures.0) in
-    (subst (λ d. Effected d c.operate_with.result (config_of c.operate_with.new.self)) (sym did) put, c.operate_with.ensures.1)
+    record {
+      stands = more (loads c.requires.there) c.in-Some.ensures.means refl c.in-Some.ensures.count;
+      does = (subst (λ d. Effected d c.operate_with.result (config_of c.operate_with.new.self)) (sym did) put, c.operate_with.ensures.1);
+    }
 
-pub returns-in-None-clause-stands : goal.returns-in-None-clause-stands
-returns-in-None-clause-stands g c =
-    subst (Stands (start_at (here_of g.O.Objects.engine c.args.machine.now c.args.chunk.now.file c.args.self.now) c.args.at.now c.args.steps.now (config_of c.args.self.now)) c.args.chunk.now.code c.args.at.now) (sym c.in-None.ensures.count) (alone_stands _ c.requires.there)
+pub returns-in-None : goal.returns-in-None
+returns-in-None g c =
+    ran_so g.O.Objects.engine c.args.machine.now c.args.chunk.now c.requires.there refl c.in-None.ensures.count c.continue_after-in-None.ensures c.load_integer-in-None.ensures

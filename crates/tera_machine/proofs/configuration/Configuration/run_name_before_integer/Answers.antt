@@ -7,11 +7,8 @@ use Rattle.tera_machine.specs.Subject.{here_of}
 use Rattle.tera_machine.proofs.Reaching.{begins, compared_comes}
 use Rattle.tera_machine.proofs.configuration.Configuration.run_name_before_integer.Goals as goal
 
-pub returns-in-Some-integer_comparison_at-clause-stands : goal.returns-in-Some-integer_comparison_at-clause-stands
-returns-in-Some-integer_comparison_at-clause-stands g c =
-    c.test_or_push.ensures.stands _ _ (compared_comes (config_of c.args.self.now) (begins c.requires.there refl (ap int (to_z-of_z w128 c.in-Some.number (search rules)) ∙ c.in-Some.ensures) refl) c.in-Some-integer_comparison_at.ensures.means refl c.in-Some-integer_comparison_at.ensures.count refl (c.compare_integer-truth.ensures c.args.chunk.now.file))
-
-pub returns-in-Some-integer_comparison_at-clause-does : goal.returns-in-Some-integer_comparison_at-clause-does
-returns-in-Some-integer_comparison_at-clause-does g c =
+pub returns-in-Some-integer_comparison_at : goal.returns-in-Some-integer_comparison_at
+returns-in-Some-integer_comparison_at g c =
     let here = here_of g.O.Objects.engine c.args.machine.now c.args.chunk.now.file c.args.self.now in
-    c.test_or_push.ensures.does _ (compared_comes (config_of c.args.self.now) (begins {here = here} {c = config_of c.args.self.now} {n = c.args.steps.now} c.requires.there refl (ap int (to_z-of_z w128 c.in-Some.number (search rules)) ∙ c.in-Some.ensures) refl) c.in-Some-integer_comparison_at.ensures.means refl c.in-Some-integer_comparison_at.ensures.count refl (c.compare_integer-truth.ensures c.args.chunk.now.file))
+    let comes = compared_comes (config_of c.args.self.now) (begins {here = here} {c = config_of c.args.self.now} {n = c.args.steps.now} c.requires.there refl (ap int (to_z-of_z w128 c.in-Some.number (search rules)) ∙ c.in-Some.ensures) refl) c.in-Some-integer_comparison_at.ensures.means refl c.in-Some-integer_comparison_at.ensures.count refl (c.compare_integer-truth.ensures c.args.chunk.now.file) in
+    record { stands = c.test_or_push.ensures.stands _ _ comes; does = c.test_or_push.ensures.does _ comes }

@@ -36,34 +36,28 @@ untested g c =
     subst (λ p. Reaches (start_at (here_of g.O.Objects.engine c.args.machine.now c.args.chunk.now.file c.args.self.now) c.args.at.now c.args.steps.now (config_of c.args.self.now)) c.args.chunk.now.code p c.branch_on.new.steps c.in-Ok.reached) (sym c.in_default-branch_on.ensures.stays.0)
     (subst (λ n. Reaches (start_at (here_of g.O.Objects.engine c.args.machine.now c.args.chunk.now.file c.args.self.now) c.args.at.now c.args.steps.now (config_of c.args.self.now)) c.args.chunk.now.code c.attributes.new.at n c.in-Ok.reached) (sym c.in_default-branch_on.ensures.stays.1) (c.in-Ok.ensures.ok _ refl (begins c.requires.there c.as_name_ref.ensures c.look-found.ensures c.in-Some.ensures)))
 
-pub returns-in_default-clause-stands : goal.returns-in_default-clause-stands
-returns-in_default-clause-stands g c =
+pub returns-in_default : goal.returns-in_default
+returns-in_default g c =
     let top : Reaches (start_at (here_of g.O.Objects.engine c.args.machine.now c.args.chunk.now.file c.args.self.now) c.args.at.now c.args.steps.now (config_of c.args.self.now)) c.args.chunk.now.code c.args.at.now c.args.steps.now c.new-operand.result = begins c.requires.there c.as_name_ref.ensures c.look-found.ensures (c.new-operand.ensures ∙ ap (λ v. record { value = v; span = c.args.span }) (sym (ap (ok_or undefined) c.in_ok-to_value.ensures))) in
-    c.finish_path.ensures.stands _ refl top
+    c.finish_path.ensures _ refl top
 
-pub returns-in_default-clause-does : goal.returns-in_default-clause-does
-returns-in_default-clause-does g c =
-    let top : Reaches (start_at (here_of g.O.Objects.engine c.args.machine.now c.args.chunk.now.file c.args.self.now) c.args.at.now c.args.steps.now (config_of c.args.self.now)) c.args.chunk.now.code c.args.at.now c.args.steps.now c.new-operand.result = begins c.requires.there c.as_name_ref.ensures c.look-found.ensures (c.new-operand.ensures ∙ ap (λ v. record { value = v; span = c.args.span }) (sym (ap (ok_or undefined) c.in_ok-to_value.ensures))) in
-    c.finish_path.ensures.does _ refl top
+pub attributes-requires : goal.attributes-requires
+attributes-requires g c = record { few = c.requires.few; there = (begun g (goal.at.attributes-requires g c).In-Some).stands.there }
 
-pub attributes-requires-clause-there : goal.attributes-requires-clause-there
-attributes-requires-clause-there g c = (begun g (goal.at.attributes-requires-clause-there g c).In-Some).stands.there
+pub returns-in-Err : goal.returns-in-Err
+returns-in-Err g c = record {
+  stands = c.in-Err.ensures.stands _ refl (begun g (goal.at.returns-in-Err g c).In-Some);
+  does = (c.in-Err.ensures.err _ refl (begun g (goal.at.returns-in-Err g c).In-Some) _, (refl, tt));
+}
 
-pub returns-in-Err-clause-stands : goal.returns-in-Err-clause-stands
-returns-in-Err-clause-stands g c = c.in-Err.ensures.stands _ refl (begun g (goal.at.returns-in-Err-clause-stands g c).In-Some)
+pub branch_on-requires : goal.branch_on-requires
+branch_on-requires g c = record { few = c.requires.few; there = (reached g (goal.at.branch_on-requires g c).In-Ok).stands.there }
 
-pub returns-in-Err-clause-does : goal.returns-in-Err-clause-does
-returns-in-Err-clause-does g c = (c.in-Err.ensures.err _ refl (begun g (goal.at.returns-in-Err-clause-does g c).In-Some) _, (refl, tt))
-
-pub branch_on-requires-clause-there : goal.branch_on-requires-clause-there
-branch_on-requires-clause-there g c = (reached g (goal.at.branch_on-requires-clause-there g c).In-Ok).stands.there
-
-pub returns-in-Some-branch_on-clause-stands : goal.returns-in-Some-branch_on-clause-stands
-returns-in-Some-branch_on-clause-stands g c = c.in-Some-branch_on.ensures.stands _ _ (reached g (goal.at.returns-in-Some-branch_on-clause-stands g c).In-Ok)
-
-pub returns-in-Some-branch_on-clause-does : goal.returns-in-Some-branch_on-clause-does
-returns-in-Some-branch_on-clause-does g c =
-    (c.in-Some-branch_on.ensures.goes _ (config_of c.args.self.now) (reached g (goal.at.returns-in-Some-branch_on-clause-does g c).In-Ok), (refl, refl))
+pub returns-in-Some-branch_on : goal.returns-in-Some-branch_on
+returns-in-Some-branch_on g c = record {
+  stands = c.in-Some-branch_on.ensures.stands _ _ (reached g (goal.at.returns-in-Some-branch_on g c).In-Ok);
+  does = (c.in-Some-branch_on.ensures.goes _ (config_of c.args.self.now) (reached g (goal.at.returns-in-Some-branch_on g c).In-Ok), (refl, refl));
+}
 
 pub overflow_add-at : goal.overflow_add-at
 overflow_add-at g c = omega (arith, (untested g (goal.at.overflow_add-at g c).In_default-tested).stands.there, c.requires.few)
@@ -72,55 +66,55 @@ pub overflow_add-at-then-writes_top_at : goal.overflow_add-at-then-writes_top_at
 overflow_add-at-then-writes_top_at g c =
     omega (arith, (untested g (goal.at.overflow_add-at-then-writes_top_at g c).In_default-tested).stands.there, c.requires.few)
 
-pub returns-then-writes_top_at-clause-stands : goal.returns-then-writes_top_at-clause-stands
-returns-then-writes_top_at-clause-stands g c =
-    more (untested g (goal.at.returns-then-writes_top_at-clause-stands g c).In_default-tested) (c.if-writes_top_at.ensures.means refl) refl c.if-writes_top_at.ensures.count
-
-pub returns-then-writes_top_at-clause-does : goal.returns-then-writes_top_at-clause-does
-returns-then-writes_top_at-clause-does g c =
-    let did = more_did (untested g (goal.at.returns-then-writes_top_at-clause-does g c).In_default-tested) (c.if-writes_top_at.ensures.means refl) refl c.if-writes_top_at.ensures.count in
+pub returns-then-writes_top_at : goal.returns-then-writes_top_at
+returns-then-writes_top_at g c =
+    let did = more_did (untested g (goal.at.returns-then-writes_top_at g c).In_default-tested) (c.if-writes_top_at.ensures.means refl) refl c.if-writes_top_at.ensures.count in
     let put = subst (λ f. Effected (put_out (output (here_of g.O.Objects.engine c.args.machine.now f c.args.self.now) c.in-Ok.reached) (config_of c.args.self.now)) c.write_lent.result (config_of (record c.args.self.now { texts = c.write_lent.new.texts }))) c.file.ensures (c.write_lent.ensures c.args.self.now refl) in
-    (subst (λ d. Effected d c.write_lent.result (config_of (record c.args.self.now { texts = c.write_lent.new.texts }))) (sym did) put, (refl, on_ok c.write_lent.result refl))
+    record {
+      stands = more (untested g (goal.at.returns-then-writes_top_at g c).In_default-tested) (c.if-writes_top_at.ensures.means refl) refl c.if-writes_top_at.ensures.count;
+      does = (subst (λ d. Effected d c.write_lent.result (config_of (record c.args.self.now { texts = c.write_lent.new.texts }))) (sym did) put, (refl, on_ok c.write_lent.result refl));
+    }
 
 pub overflow_add-at-2 : goal.overflow_add-at-2
 overflow_add-at-2 g c = omega (arith, (untested g (goal.at.overflow_add-at-2 g c).In_default-tested).stands.there, c.requires.few)
 
-pub returns-in_err-operand-clause-stands : goal.returns-in_err-operand-clause-stands
-returns-in_err-operand-clause-stands g c =
-    subst (Stands (start_at (here_of g.O.Objects.engine c.args.machine.now c.args.chunk.now.file c.args.self.now) c.args.at.now c.args.steps.now (config_of c.args.self.now)) c.args.chunk.now.code c.branch_on.new.at) (sym (c.in_default-comparison_at.ensures.count ∙ c.if-writes_top_at.ensures.count)) (untested g (goal.at.returns-in_err-operand-clause-stands g c).In_default-tested).stands
+pub returns-in_err-operand : goal.returns-in_err-operand
+returns-in_err-operand g c = record {
+  stands = subst (Stands (start_at (here_of g.O.Objects.engine c.args.machine.now c.args.chunk.now.file c.args.self.now) c.args.at.now c.args.steps.now (config_of c.args.self.now)) c.args.chunk.now.code c.branch_on.new.at) (sym (c.in_default-comparison_at.ensures.count ∙ c.if-writes_top_at.ensures.count)) (untested g (goal.at.returns-in_err-operand g c).In_default-tested).stands;
+  does = ?;
+}
 
-pub returns-in_default-comparison_at-clause-stands : goal.returns-in_default-comparison_at-clause-stands
-returns-in_default-comparison_at-clause-stands g c =
-    subst (Stands (start_at (here_of g.O.Objects.engine c.args.machine.now c.args.chunk.now.file c.args.self.now) c.args.at.now c.args.steps.now (config_of c.args.self.now)) c.args.chunk.now.code c.branch_on.new.at) (sym (c.in_default-comparison_at.ensures.count ∙ c.if-writes_top_at.ensures.count)) (untested g (goal.at.returns-in_default-comparison_at-clause-stands g c).In_default-tested).stands
-
-pub returns-in_default-comparison_at-clause-does : goal.returns-in_default-comparison_at-clause-does
-returns-in_default-comparison_at-clause-does g c =
-    let did = subst (λ n. done (here_of g.O.Objects.engine c.args.machine.now c.args.chunk.now.file c.args.self.now) c.args.chunk.now.code (suc (n - c.args.steps.now)) c.args.at.now (config_of c.args.self.now) ≡ Goes (topped c.in_ok-operand.operand (config_of c.args.self.now)) On) (sym (c.in_default-comparison_at.ensures.count ∙ c.if-writes_top_at.ensures.count)) ((untested g (goal.at.returns-in_default-comparison_at-clause-does g c).In_default-tested).did ∙ ap (λ a. Goes (topped a (config_of c.args.self.now)) On) (ap (ok_or c.in-Ok.reached) c.in_ok-operand.ensures.operand)) in
-    (subst (λ d. Effected d c.push_operand.result (config_of c.push_operand.new.self)) (sym did) c.push_operand.ensures.0, c.push_operand.ensures.1)
+pub returns-in_default-comparison_at : goal.returns-in_default-comparison_at
+returns-in_default-comparison_at g c =
+    let did = subst (λ n. done (here_of g.O.Objects.engine c.args.machine.now c.args.chunk.now.file c.args.self.now) c.args.chunk.now.code (suc (n - c.args.steps.now)) c.args.at.now (config_of c.args.self.now) ≡ Goes (topped c.in_ok-operand.operand (config_of c.args.self.now)) On) (sym (c.in_default-comparison_at.ensures.count ∙ c.if-writes_top_at.ensures.count)) ((untested g (goal.at.returns-in_default-comparison_at g c).In_default-tested).did ∙ ap (λ a. Goes (topped a (config_of c.args.self.now)) On) (ap (ok_or c.in-Ok.reached) c.in_ok-operand.ensures.operand)) in
+    record {
+      stands = subst (Stands (start_at (here_of g.O.Objects.engine c.args.machine.now c.args.chunk.now.file c.args.self.now) c.args.at.now c.args.steps.now (config_of c.args.self.now)) c.args.chunk.now.code c.branch_on.new.at) (sym (c.in_default-comparison_at.ensures.count ∙ c.if-writes_top_at.ensures.count)) (untested g (goal.at.returns-in_default-comparison_at g c).In_default-tested).stands;
+      does = (subst (λ d. Effected d c.push_operand.result (config_of c.push_operand.new.self)) (sym did) c.push_operand.ensures.0, c.push_operand.ensures.1);
+    }
 
 pub overflow_add-at-3 : goal.overflow_add-at-3
 overflow_add-at-3 g c = omega (arith, (two_more (untested g (goal.at.overflow_add-at-3 g c).In_default-tested) c.in-Some-comparison_at.ensures.means refl (c.in-Some-comparison_at.ensures.count ∙ ap (λ n. n + 2) c.if-writes_top_at.ensures.count)).there, c.requires.few)
 
-pub test_or_push-requires-clause-there : goal.test_or_push-requires-clause-there
-test_or_push-requires-clause-there g c = (two_more (untested g (goal.at.test_or_push-requires-clause-there g c).In_default-tested) c.in-Some-comparison_at.ensures.means refl (c.in-Some-comparison_at.ensures.count ∙ ap (λ n. n + 2) c.if-writes_top_at.ensures.count)).there
+pub test_or_push-requires : goal.test_or_push-requires
+test_or_push-requires g c = record { few = c.requires.few; there = (two_more (untested g (goal.at.test_or_push-requires g c).In_default-tested) c.in-Some-comparison_at.ensures.means refl (c.in-Some-comparison_at.ensures.count ∙ ap (λ n. n + 2) c.if-writes_top_at.ensures.count)).there }
 
-pub returns-in-Ok-compare_with_constant-clause-stands : goal.returns-in-Ok-compare_with_constant-clause-stands
-returns-in-Ok-compare_with_constant-clause-stands g c =
-    c.test_or_push.ensures.stands _ _ (compared_comes (config_of c.args.self.now) (untested g (goal.at.returns-in-Ok-compare_with_constant-clause-stands g c).In_default-tested) c.in-Some-comparison_at.ensures.means refl (c.in-Some-comparison_at.ensures.count ∙ ap (λ n. n + 2) c.if-writes_top_at.ensures.count) c.file-2.ensures c.in-Ok-compare_with_constant.ensures)
+pub returns-in-Ok-compare_with_constant : goal.returns-in-Ok-compare_with_constant
+returns-in-Ok-compare_with_constant g c = record {
+  stands = c.test_or_push.ensures.stands _ _ (compared_comes (config_of c.args.self.now) (untested g (goal.at.returns-in-Ok-compare_with_constant g c).In_default-tested) c.in-Some-comparison_at.ensures.means refl (c.in-Some-comparison_at.ensures.count ∙ ap (λ n. n + 2) c.if-writes_top_at.ensures.count) c.file-2.ensures c.in-Ok-compare_with_constant.ensures);
+  does = c.test_or_push.ensures.does _ (compared_comes (config_of c.args.self.now) (untested g (goal.at.returns-in-Ok-compare_with_constant g c).In_default-tested) c.in-Some-comparison_at.ensures.means refl (c.in-Some-comparison_at.ensures.count ∙ ap (λ n. n + 2) c.if-writes_top_at.ensures.count) c.file-2.ensures c.in-Ok-compare_with_constant.ensures);
+}
 
-pub returns-in-Ok-compare_with_constant-clause-does : goal.returns-in-Ok-compare_with_constant-clause-does
-returns-in-Ok-compare_with_constant-clause-does g c =
-    c.test_or_push.ensures.does _ (compared_comes (config_of c.args.self.now) (untested g (goal.at.returns-in-Ok-compare_with_constant-clause-does g c).In_default-tested) c.in-Some-comparison_at.ensures.means refl (c.in-Some-comparison_at.ensures.count ∙ ap (λ n. n + 2) c.if-writes_top_at.ensures.count) c.file-2.ensures c.in-Ok-compare_with_constant.ensures)
+pub returns-in-Err-compare_with_constant : goal.returns-in-Err-compare_with_constant
+returns-in-Err-compare_with_constant g c = record {
+  stands = two_more (untested g (goal.at.returns-in-Err-compare_with_constant g c).In_default-tested) c.in-Some-comparison_at.ensures.means refl (c.in-Some-comparison_at.ensures.count ∙ ap (λ n. n + 2) c.if-writes_top_at.ensures.count);
+  does = (compared_breaks (config_of c.args.self.now) (untested g (goal.at.returns-in-Err-compare_with_constant g c).In_default-tested) c.in-Some-comparison_at.ensures.means refl (c.in-Some-comparison_at.ensures.count ∙ ap (λ n. n + 2) c.if-writes_top_at.ensures.count) c.file-2.ensures c.in-Err-compare_with_constant.error c.in-Err-compare_with_constant.ensures _, (refl, tt));
+}
 
-pub returns-in-Err-compare_with_constant-clause-stands : goal.returns-in-Err-compare_with_constant-clause-stands
-returns-in-Err-compare_with_constant-clause-stands g c = two_more (untested g (goal.at.returns-in-Err-compare_with_constant-clause-stands g c).In_default-tested) c.in-Some-comparison_at.ensures.means refl (c.in-Some-comparison_at.ensures.count ∙ ap (λ n. n + 2) c.if-writes_top_at.ensures.count)
+pub returns-in_err-to_value : goal.returns-in_err-to_value
+returns-in_err-to_value g c = record {
+  stands = alone_stands _ c.requires.there;
+  does = ?;
+}
 
-pub returns-in-Err-compare_with_constant-clause-does : goal.returns-in-Err-compare_with_constant-clause-does
-returns-in-Err-compare_with_constant-clause-does g c =
-    (compared_breaks (config_of c.args.self.now) (untested g (goal.at.returns-in-Err-compare_with_constant-clause-does g c).In_default-tested) c.in-Some-comparison_at.ensures.means refl (c.in-Some-comparison_at.ensures.count ∙ ap (λ n. n + 2) c.if-writes_top_at.ensures.count) c.file-2.ensures c.in-Err-compare_with_constant.error c.in-Err-compare_with_constant.ensures _, (refl, tt))
-
-pub returns-in_err-to_value-clause-stands : goal.returns-in_err-to_value-clause-stands
-returns-in_err-to_value-clause-stands g c = alone_stands _ c.requires.there
-
-pub finish_path-requires-clause-there : goal.finish_path-requires-clause-there
-finish_path-requires-clause-there g c = slice_get_within c.args.chunk.now.code c.args.at.now _ c.requires.there
+pub finish_path-requires : goal.finish_path-requires
+finish_path-requires g c = record { few = c.requires.few; there = slice_get_within c.args.chunk.now.code c.args.at.now _ c.requires.there }

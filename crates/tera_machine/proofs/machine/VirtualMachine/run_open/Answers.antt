@@ -8,62 +8,64 @@ use Rattle.tera_machine.proofs.machine.VirtualMachine.run_open.Goals as goal
 pub bodies-init : goal.bodies-init
 bodies-init g c = (c.chunk-chunk.ensures, (c.requires.belong, rw c.chunk-chunk.ensures (rw c.requires.none (begins g.M.Limit.most g.M.Limit.world c.args.self.now (code_of c.args.first) c.args.blocks.now c.args.configuration.now c.args.steps.now c.requires.linked c.requires.within))))
 
-pub perform-requires-clause-ready : goal.perform-requires-clause-ready
-perform-requires-clause-ready g c = ready g.O.Objects.engine c.requires.engine c.bodies.invariant.1.1 c.in-Some.ensures.found
+pub run_instruction-requires : goal.run_instruction-requires
+run_instruction-requires g c = record {
+  there = c.in-Some.ensures.found;
+  few = c.in-Some.ensures.small;
+  ready = ready g.O.Objects.engine c.requires.engine c.bodies.invariant.1.1 c.in-Some.ensures.found;
+  small = is_small g.O.Objects.engine c.requires.engine c.bodies.invariant.1.1 c.in-Some.ensures.found c.in-Some.ensures.small;
+}
 
-pub perform-requires-clause-small : goal.perform-requires-clause-small
-perform-requires-clause-small g c = is_small g.O.Objects.engine c.requires.engine c.bodies.invariant.1.1 c.in-Some.ensures.found c.in-Some.ensures.small
+pub returns-in-Err-run_instruction-clause-bounded : goal.returns-in-Err-run_instruction-clause-bounded
+returns-in-Err-run_instruction-clause-bounded g c = λ h. (few g.O.Objects.engine c.requires.engine c.bodies.invariant.1.1 c.in-Some.ensures.count c.run_instruction.ensures.stands).1
 
-pub returns-in-Err-perform-clause-bounded : goal.returns-in-Err-perform-clause-bounded
-returns-in-Err-perform-clause-bounded g c = λ h. (few g.O.Objects.engine c.requires.engine c.bodies.invariant.1.1 c.in-Some.ensures.count c.perform.ensures.stands).1
-
-pub returns-in-Err-perform-clause-ends : goal.returns-in-Err-perform-clause-ends
-returns-in-Err-perform-clause-ends g c = broke g.O.Objects.engine c.requires.engine c.bodies.invariant.1.1 c.in-Some.ensures.count c.perform.ensures.stands _ _ c.in-Err-perform.ensures.does.0
+pub returns-in-Err-run_instruction-clause-ends : goal.returns-in-Err-run_instruction-clause-ends
+returns-in-Err-run_instruction-clause-ends g c = broke g.O.Objects.engine c.requires.engine c.bodies.invariant.1.1 c.in-Some.ensures.count c.run_instruction.ensures.stands _ _ c.in-Err-run_instruction.ensures.does.0
 
 pub bodies-smaller-in-On : goal.bodies-smaller-in-On
-bodies-smaller-in-On g c = let l = few g.O.Objects.engine c.requires.engine c.bodies.invariant.1.1 c.in-Some.ensures.count c.perform.ensures.stands in omega (arith, l.0, l.1)
+bodies-smaller-in-On g c = let l = few g.O.Objects.engine c.requires.engine c.bodies.invariant.1.1 c.in-Some.ensures.count c.run_instruction.ensures.stands in omega (arith, l.0, l.1)
 
 pub bodies-preserved-in-On : goal.bodies-preserved-in-On
-bodies-preserved-in-On g c = (c.bodies.invariant.0, (c.bodies.invariant.1.0, on g.O.Objects.engine c.requires.engine c.bodies.invariant.1.1 c.in-Some.ensures.count c.perform.ensures.stands c.perform.new.self c.in-Ok-perform.flow c.in-Ok-perform.ensures.does c.in-On.is))
+bodies-preserved-in-On g c = (c.bodies.invariant.0, (c.bodies.invariant.1.0, on g.O.Objects.engine c.requires.engine c.bodies.invariant.1.1 c.in-Some.ensures.count c.run_instruction.ensures.stands c.run_instruction.new.self c.in-Ok-run_instruction.flow c.in-Ok-run_instruction.ensures.does c.in-On.is))
 
 pub bodies-smaller-in-Skip : goal.bodies-smaller-in-Skip
-bodies-smaller-in-Skip g c = let l = few g.O.Objects.engine c.requires.engine c.bodies.invariant.1.1 c.in-Some.ensures.count c.perform.ensures.stands in omega (arith, l.0, l.1)
+bodies-smaller-in-Skip g c = let l = few g.O.Objects.engine c.requires.engine c.bodies.invariant.1.1 c.in-Some.ensures.count c.run_instruction.ensures.stands in omega (arith, l.0, l.1)
 
 pub bodies-preserved-in-Skip : goal.bodies-preserved-in-Skip
-bodies-preserved-in-Skip g c = (c.bodies.invariant.0, (c.bodies.invariant.1.0, skips g.O.Objects.engine c.requires.engine c.bodies.invariant.1.1 c.in-Some.ensures.count c.perform.ensures.stands c.perform.new.self c.in-Ok-perform.flow c.in-Ok-perform.ensures.does c.in-Skip.is))
+bodies-preserved-in-Skip g c = (c.bodies.invariant.0, (c.bodies.invariant.1.0, skips g.O.Objects.engine c.requires.engine c.bodies.invariant.1.1 c.in-Some.ensures.count c.run_instruction.ensures.stands c.run_instruction.new.self c.in-Ok-run_instruction.flow c.in-Ok-run_instruction.ensures.does c.in-Skip.is))
 
 pub bodies-smaller-in-To : goal.bodies-smaller-in-To
-bodies-smaller-in-To g c = let l = few g.O.Objects.engine c.requires.engine c.bodies.invariant.1.1 c.in-Some.ensures.count c.perform.ensures.stands in omega (arith, l.0, l.1)
+bodies-smaller-in-To g c = let l = few g.O.Objects.engine c.requires.engine c.bodies.invariant.1.1 c.in-Some.ensures.count c.run_instruction.ensures.stands in omega (arith, l.0, l.1)
 
 pub bodies-preserved-in-To : goal.bodies-preserved-in-To
-bodies-preserved-in-To g c = (c.bodies.invariant.0, (c.bodies.invariant.1.0, to g.O.Objects.engine c.requires.engine c.bodies.invariant.1.1 c.in-Some.ensures.count c.perform.ensures.stands c.perform.new.self c.in-Ok-perform.flow c.in-Ok-perform.ensures.does c.in-To.is))
+bodies-preserved-in-To g c = (c.bodies.invariant.0, (c.bodies.invariant.1.0, to g.O.Objects.engine c.requires.engine c.bodies.invariant.1.1 c.in-Some.ensures.count c.run_instruction.ensures.stands c.run_instruction.new.self c.in-Ok-run_instruction.flow c.in-Ok-run_instruction.ensures.does c.in-To.is))
 
 pub bodies-smaller-in-Out : goal.bodies-smaller-in-Out
-bodies-smaller-in-Out g c = let l = few g.O.Objects.engine c.requires.engine c.bodies.invariant.1.1 c.in-Some.ensures.count c.perform.ensures.stands in omega (arith, l.0, l.1)
+bodies-smaller-in-Out g c = let l = few g.O.Objects.engine c.requires.engine c.bodies.invariant.1.1 c.in-Some.ensures.count c.run_instruction.ensures.stands in omega (arith, l.0, l.1)
 
 pub bodies-preserved-in-Out : goal.bodies-preserved-in-Out
-bodies-preserved-in-Out g c = (c.bodies.invariant.0, (c.bodies.invariant.1.0, rw c.len-at.ensures (out g.O.Objects.engine c.requires.engine c.bodies.invariant.1.1 c.in-Some.ensures.count c.perform.ensures.stands c.perform.new.self c.in-Ok-perform.flow c.in-Ok-perform.ensures.does c.in-Out.is)))
+bodies-preserved-in-Out g c = (c.bodies.invariant.0, (c.bodies.invariant.1.0, rw c.len-at.ensures (out g.O.Objects.engine c.requires.engine c.bodies.invariant.1.1 c.in-Some.ensures.count c.run_instruction.ensures.stands c.run_instruction.new.self c.in-Ok-run_instruction.flow c.in-Ok-run_instruction.ensures.does c.in-Out.is)))
 
 pub overflow_add-at : goal.overflow_add-at
-overflow_add-at g c = omega (arith, skip_fits g.O.Objects.engine c.requires.engine c.bodies.invariant.1.1 c.in-Some.ensures.count c.perform.ensures.stands c.perform.new.self c.in-Ok-perform.flow c.in-Ok-perform.ensures.does c.in-Skip.is, c.in-Some.ensures.small)
+overflow_add-at g c = omega (arith, skip_fits g.O.Objects.engine c.requires.engine c.bodies.invariant.1.1 c.in-Some.ensures.count c.run_instruction.ensures.stands c.run_instruction.new.self c.in-Ok-run_instruction.flow c.in-Ok-run_instruction.ensures.does c.in-Skip.is, c.in-Some.ensures.small)
 
 pub overflow_add-at-in-To : goal.overflow_add-at-in-To
-overflow_add-at-in-To g c = omega (arith, to_fits g.O.Objects.engine c.requires.engine c.bodies.invariant.1.1 c.in-Some.ensures.count c.perform.ensures.stands c.perform.new.self c.in-Ok-perform.flow c.in-Ok-perform.ensures.does c.in-To.is, c.in-Some.ensures.small)
+overflow_add-at-in-To g c = omega (arith, to_fits g.O.Objects.engine c.requires.engine c.bodies.invariant.1.1 c.in-Some.ensures.count c.run_instruction.ensures.stands c.run_instruction.new.self c.in-Ok-run_instruction.flow c.in-Ok-run_instruction.ensures.does c.in-To.is, c.in-Some.ensures.small)
 
-pub returns-in-Err-pop_top-clause-bounded : goal.returns-in-Err-pop_top-clause-bounded
-returns-in-Err-pop_top-clause-bounded g c = λ h. (few g.O.Objects.engine c.requires.engine c.bodies.invariant.1.1 c.in-Some.ensures.count c.perform.ensures.stands).1
+pub returns-in-Err-start_body-clause-bounded : goal.returns-in-Err-start_body-clause-bounded
+returns-in-Err-start_body-clause-bounded g c = λ h. (few g.O.Objects.engine c.requires.engine c.bodies.invariant.1.1 c.in-Some.ensures.count c.run_instruction.ensures.stands).1
 
-pub returns-in-Err-pop_top-clause-ends : goal.returns-in-Err-pop_top-clause-ends
-returns-in-Err-pop_top-clause-ends g c = take_broke g.O.Objects.engine c.requires.engine c.bodies.invariant.1.1 c.in-Some.ensures.count c.perform.ensures.stands c.perform.new.self c.in-Ok-perform.flow c.in-Ok-perform.ensures.does (ap flow_of c.in-Call.is) c.bodies.body c.bodies.invariant.0 c.pop_top.new.self _ _ c.in-Err-pop_top.error c.pop_top.new.configuration c.in-Err-pop_top.ensures
+pub returns-in-Err-start_body-clause-ends : goal.returns-in-Err-start_body-clause-ends
+returns-in-Err-start_body-clause-ends g c = take_broke g.O.Objects.engine c.requires.engine c.bodies.invariant.1.1 c.in-Some.ensures.count c.run_instruction.ensures.stands c.run_instruction.new.self c.in-Ok-run_instruction.flow c.in-Ok-run_instruction.ensures.does (ap flow_of c.in-Call.is) c.bodies.body c.bodies.invariant.0 c.start_body.new.self _ _ c.in-Err-start_body.error c.start_body.new.configuration c.in-Err-start_body.ensures
 
 pub bodies-smaller : goal.bodies-smaller
-bodies-smaller g c = let l = few g.O.Objects.engine c.requires.engine c.bodies.invariant.1.1 c.in-Some.ensures.count c.perform.ensures.stands in omega (arith, l.0, l.1, ap length c.in-Ok-pop_top.ensures.is)
+bodies-smaller g c = let l = few g.O.Objects.engine c.requires.engine c.bodies.invariant.1.1 c.in-Some.ensures.count c.run_instruction.ensures.stands in omega (arith, l.0, l.1, ap length c.in-Ok-start_body.ensures.is)
 
 pub bodies-preserved : goal.bodies-preserved
 bodies-preserved g c =
     let inv = c.bodies.invariant in
-    let t = c.in-Ok-pop_top.ensures in
-    (c.chunk-chunk-in-Call.ensures, (t.belong, rw c.chunk-chunk-in-Call.ensures (goes_in g.O.Objects.engine c.requires.engine inv.1.1 c.in-Some.ensures.count c.perform.ensures.stands c.perform.new.self c.in-Ok-perform.flow c.in-Ok-perform.ensures.does (ap flow_of c.in-Call.is) c.bodies.body inv.0 t refl inv.1.0)))
+    let t = c.in-Ok-start_body.ensures in
+    (c.chunk-chunk-in-Call.ensures, (t.belong, rw c.chunk-chunk-in-Call.ensures (goes_in g.O.Objects.engine c.requires.engine inv.1.1 c.in-Some.ensures.count c.run_instruction.ensures.stands c.run_instruction.new.self c.in-Ok-run_instruction.flow c.in-Ok-run_instruction.ensures.does (ap flow_of c.in-Call.is) c.bodies.body inv.0 t refl inv.1.0)))
 
 pub returns-then-len-eq0-clause-ends : goal.returns-then-len-eq0-clause-ends
 returns-then-len-eq0-clause-ends g c = all_over c.bodies.invariant.1.1 c.in_default.ensures.found c.in_default.ensures.count (sym c.len.ensures.count ∙ c.if-len-eq0.true)
@@ -88,7 +90,7 @@ bodies-preserved-in_default g c =
     let g' = c.bodies.invariant.1.1 in
     (c.chunk-chunk-in_default.ensures, (belong_again g' c.in_default.ensures.found c.in_default.ensures.count c.in-Ok.ensures.ok, rw c.chunk-chunk-in_default.ensures (goes_out g' c.in_default.ensures.found c.in_default.ensures.count c.in-Ok.ensures.ok)))
 
-pub pop_top-requires-clause-takes : goal.pop_top-requires-clause-takes
-pop_top-requires-clause-takes g c =
+pub start_body-requires-clause-takes : goal.start_body-requires-clause-takes
+start_body-requires-clause-takes g c =
     let inv = c.bodies.invariant in
-    takes_requested g.O.Objects.engine c.requires.engine inv.1.1 c.in-Some.ensures.count c.perform.ensures.stands c.perform.new.self c.in-Ok-perform.flow c.in-Ok-perform.ensures.does (ap flow_of c.in-Call.is) c.bodies.body inv.0 c.in-Call.request refl
+    takes_requested g.O.Objects.engine c.requires.engine inv.1.1 c.in-Some.ensures.count c.run_instruction.ensures.stands c.run_instruction.new.self c.in-Ok-run_instruction.flow c.in-Ok-run_instruction.ensures.does (ap flow_of c.in-Call.is) c.bodies.body inv.0 c.in-Call.request refl

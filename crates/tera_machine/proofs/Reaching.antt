@@ -75,9 +75,14 @@ lacking : (d : Did) (x : SeenError) (c : Config) → Lacks x → Effected d (Err
 lacking d None c h = tt
 lacking d (Some fault) c h = (let q : Some fault ≡ None = h in cc)
 
--- where memory is refused nothing is said of it
-pub lacking_does : {f : Config → Did} {before : Configuration} {x : SeenError} → Lacks x → Does f before (Err x) before
-lacking_does {f} {before} {x} h = (lacking (f (config_of before)) x (config_of before) h, (refl, tt))
+-- where memory is refused nothing is said of what was done
+pub lacking_does : (f : Config → Did) (before : Configuration) (x : SeenError) → Lacks x → Does f before (Err x) before
+lacking_does f before x h = (lacking (f (config_of before)) x (config_of before) h, (refl, tt))
+
+-- and it is refused before anything is done
+pub ran_lacking : {O : Type 0} {engine : O → Engine} {m : VirtualMachine O} {chunk : Listing} {at n : ℕ} {i : Instruction} {before : Configuration} {x : SeenError} → CanRun engine m chunk at i before → Lacks x → HasRun engine m chunk at n before (Err x) at n before
+ran_lacking {engine = engine} {m = m} {chunk = chunk} {at = at} {i = i} {before = before} {x = x} q h =
+    ran_alone q refl refl (lacking_does (effect (here_of engine m chunk.file before) (at + 1) i) before x h)
 
 -- a name alone: what it stands for lies on top
 pub begins : {here : Here} {code : Code} {c : Config} {at n : ℕ} {name sought : site.Name} {span : Span} {found : Val} {a : Evaluated} → slice_get code at ≡ Some (instruction.LoadName name span) → sought ≡ name → found ≡ look sought here.around c.run.vars → a ≡ record { value = found; span = span } → Reaches (start_at here at n c) code at n a

@@ -1,9 +1,9 @@
 use Rattle.std.proofs.Common.{refl}
-use Rattle.tera_machine.proofs.Reaching.{lacking_does, ran_alone, ran_alone_after}
+use Rattle.tera_machine.proofs.Reaching.{ran_alone, ran_alone_after, ran_lacking}
 use Rattle.tera_machine.proofs.configuration.Configuration.run_instruction.Goals as goal
 
 pub returns-then-are_spent : goal.returns-then-are_spent
-returns-then-are_spent g c = ran_alone c.requires refl refl (lacking_does c.out_of_memory.ensures)
+returns-then-are_spent g c = ran_lacking c.requires c.out_of_memory.ensures
 
 pub returns-in-Some : goal.returns-in-Some
 returns-in-Some g c = ran_alone_after c.requires c.in-Some.ensures.means c.continue_after.ensures c.write_text.ensures

@@ -5,7 +5,7 @@ ghost use Rattle.tera_state.specs.Prelude.{in_component, around_of, variables_of
 ghost use Rattle.tera_meaning.specs.Prelude.{component_at};
 ghost use Rattle.tera_code.specs.Targets.{ComponentNamed};
 ghost use Rattle.tera_registry.specs.Prelude.{code_of, found_of, first_kept, IsDefined};
-ghost use Rattle.tera_machine.specs.declared.open_bodies.OpenBodies.{OpenBlocks};
+ghost use Rattle.tera_machine.specs.declared.open_bodies.OpenBodies.{OpenBodies};
 ghost use Rattle.tera_machine.specs.Config.{config_of};
 ghost use Rattle.tera_machine.specs.Flow.{Pushed, component_request};
 ghost use Rattle.tera_machine.specs.Apart.{Begins, Rejoins};
@@ -124,7 +124,7 @@ impl<'t, O: Objects> VirtualMachine<'t, O> {
         requires linked { IsLinked self.now M.world }
         requires here { IsOf M.world.registry here }
         requires takes { TakesBefore here next (ComponentNamed asked.name.now) }
-        ensures { (blocks : OpenBlocks) → Calls M.world
+        ensures { (blocks : OpenBodies) → Calls M.world
             (place_at self.now (code_of here.entry).file blocks configuration.now)
             (component_request asked.entry) (variables_of configuration.now.scopes) result }
     {

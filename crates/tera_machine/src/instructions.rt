@@ -4,7 +4,7 @@ ghost use Rattle.tera_errors.specs.Prelude.{Tells, Lacks, Site, rendering_error}
 ghost use Rattle.tera_operators.specs.Operators.{binary_of};
 ghost use Rattle.tera_machine.specs.Config.{config_of};
 ghost use Rattle.tera_machine.specs.Did.{pushed, holding};
-ghost use Rattle.tera_machine.specs.Effect.{effect, IsReady, IsSmall, Does, continue_after, continue_if_written, text_written, outcome_put, top_written, name_written, name_loaded, context_loaded, stored, attribute_loaded, item_loaded, sliced, denied, negated, operated, handed, component_taken, popped_branch, kept_if, above_taken, topmost, on_one};
+ghost use Rattle.tera_machine.specs.Effect.{effect, CanDo, IsReady, Does, continue_after, continue_if_written, text_written, outcome_put, top_written, name_written, name_loaded, context_loaded, stored, attribute_loaded, item_loaded, sliced, denied, negated, operated, handed, component_taken, popped_branch, kept_if, above_taken, topmost, on_one};
 ghost use Rattle.tera_machine.specs.Subject.{here_of};
 ghost use Rattle.tera_machine.specs.declared.machine.Flow.TheVariants as flow;
 ghost use Rattle.tera_state.specs.Prelude.{around_of};

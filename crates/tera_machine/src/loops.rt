@@ -4,7 +4,7 @@ ghost use Rattle.tera_errors.specs.Prelude.{Gives};
 ghost use Rattle.tera_operators.specs.Prelude.{placed};
 ghost use Rattle.tera_state.specs.Prelude.{Heading, loop_turns, around_of, turns_left};
 ghost use Rattle.tera_machine.specs.Config.{config_of};
-ghost use Rattle.tera_machine.specs.Effect.{IsReady, IsSmall, Does, beneath};
+ghost use Rattle.tera_machine.specs.Effect.{CanDo, IsReady, Does, beneath};
 ghost use Rattle.tera_machine.specs.Loops.{loop_started, turned, loop_ended, kept, comprehension_ended, innermost, Closes};
 ghost use Rattle.tera_machine.specs.Subject.{here_of};
 

@@ -28,7 +28,7 @@ pub up-smaller : goal.up-smaller
 up-smaller g c =
     let r = g.registry in
     let here = entry-among r c.args.templates.now c.up.last _ _ c.requires.0.same c.up.invariant.there c.index-templates-last.is c.deref-template.ensures in
-    fewer r _ c.up.last c.in-BlockAt.next here (c.requires.0.grounded.each c.up.last _ here) (up-at r _ c.args.ups.now c.up.last (up.BlockAt c.in-BlockAt.next) _ c.requires.0 c.up.invariant.there c.in-BlockAt.is here)
+    fewer r _ c.up.last c.in-At.next here (c.requires.0.grounded.each c.up.last _ here) (up-at r _ c.args.ups.now c.up.last (up.At c.in-At.next) _ c.requires.0 c.up.invariant.there c.in-At.is here)
 
 pub up-preserved : goal.up-preserved
 up-preserved g c =
@@ -36,14 +36,14 @@ up-preserved g c =
     let block = c.args.block.now in
     let u = entry_of c.deref-template.result.now in
     let here = entry-among r c.args.templates.now c.up.last _ _ c.requires.0.same c.up.invariant.there c.index-templates-last.is c.deref-template.ensures in
-    let above = up-at r _ c.args.ups.now c.up.last (up.BlockAt c.in-BlockAt.next) u c.requires.0 c.up.invariant.there c.in-BlockAt.is here in
+    let above = up-at r _ c.args.ups.now c.up.last (up.At c.in-At.next) u c.requires.0 c.up.invariant.there c.in-At.is here in
     let ok = c.requires.0.grounded.each c.up.last u here in
-    let there = among r c.args.templates.now _ c.in-BlockAt.next c.requires.0 above.2.1 in
+    let there = among r c.args.templates.now _ c.in-At.next c.requires.0 above.2.1 in
     record {
       there = there;
       listed = listed r _ _ _ c.requires.0 there;
       same = λ t v t_at v_at.
-          c.up.invariant.same t u t_at here ∙ pass-number r block c.up.last u (ancestors r u) c.requires.0.rises here c.in_default.ensures ∙ ap (lineage r block) (next-ancestors r u v c.in-BlockAt.next ok above v_at);
+          c.up.invariant.same t u t_at here ∙ pass-number r block c.up.last u (ancestors r u) c.requires.0.rises here c.in_default.ensures ∙ ap (lineage r block) (next-ancestors r u v c.in-At.next ok above v_at);
     }
 
 pub returns-in-None-clause-number : goal.returns-in-None-clause-number

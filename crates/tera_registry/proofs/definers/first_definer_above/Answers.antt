@@ -12,15 +12,15 @@ pub first_definer-requires : goal.first_definer-requires
 first_definer-requires g c =
     let r = g.registry in
     let t = entry-there r c.args.templates.now _ c.args.of c.requires.0 c.requires.1 in
-    let above = up-at r _ c.args.ups.now c.args.of (up.BlockAt c.in-BlockAt.next) t.0 c.requires.0 c.requires.1 c.in-BlockAt.is t.1 in
-    (c.requires.0, among r _ c.args.ups.now c.in-BlockAt.next c.requires.0 above.2.1)
+    let above = up-at r _ c.args.ups.now c.args.of (up.At c.in-At.next) t.0 c.requires.0 c.requires.1 c.in-At.is t.1 in
+    (c.requires.0, among r _ c.args.ups.now c.in-At.next c.requires.0 above.2.1)
 
-pub returns-in-BlockAt-clause-number : goal.returns-in-BlockAt-clause-number
-returns-in-BlockAt-clause-number g c = λ t at.
+pub returns-in-At-clause-number : goal.returns-in-At-clause-number
+returns-in-At-clause-number g c = λ t at.
     let r = g.registry in
-    let above = up-at r _ c.args.ups.now c.args.of (up.BlockAt c.in-BlockAt.next) t c.requires.0 c.requires.1 c.in-BlockAt.is at in
-    let v = element r.templates c.in-BlockAt.next above.2.1 in
-    let behind = next-ancestors r t v.0 c.in-BlockAt.next (c.requires.0.grounded.each c.args.of t at) above v.1 in
+    let above = up-at r _ c.args.ups.now c.args.of (up.At c.in-At.next) t c.requires.0 c.requires.1 c.in-At.is at in
+    let v = element r.templates c.in-At.next above.2.1 in
+    let behind = next-ancestors r t v.0 c.in-At.next (c.requires.0.grounded.each c.args.of t at) above v.1 in
     c.first_definer.ensures.number v.0 v.1 ∙ sym (ap (λ ts. first_of (lineage r c.args.block.now ts)) behind)
 
 pub returns-in-None-clause-number : goal.returns-in-None-clause-number

@@ -34,7 +34,7 @@ roots-requires g c =
       subst (λ (r : Registry). AreUps r c.as_slice-2.result.now (length r.templates)) here (ups-served engine ts ps _ _ ups),
       (
         subst (λ (r : Registry). IsFirstCircle r c.in_ok-circle.circle) here (circle-served engine ts ps c.in_ok-circle.circle (first_circle (seen ts ps) _ c.in_ok-circle.circle e c.in_ok-circle.ensures)),
-        subst (λ (r : Registry). IsFirstTie r c.in_ok-components_by_name.field-0.tie) here (tie-served engine ts ps c.in_ok-components_by_name.field-0.tie c.in_ok-components_by_name.ensures.tie),
+        subst (λ (r : Registry). IsFirstTie r c.in_ok-choices.field-0.tie) here (tie-served engine ts ps c.in_ok-choices.field-0.tie c.in_ok-choices.ensures.tie),
       ),
     )
 
@@ -54,7 +54,7 @@ any_is_incomplete-requires g c = λ κs within.
           (
             sym (length-rows c.as_slice-4.result.now) ∙ edges.as_many,
             (
-              subst (λ (r : Registry). AreChosen r c.in_ok-components_by_name.field-0.choices) here (chosen-served engine ts ps c.in_ok-components_by_name.field-0.choices c.in_ok-components_by_name.ensures.taken),
+              subst (λ (r : Registry). AreChosen r c.in_ok-choices.field-0.choices) here (chosen-served engine ts ps c.in_ok-choices.field-0.choices c.in_ok-choices.ensures.taken),
               ap (λ (r : Registry). r.engine) c.requires.1.1,
             ),
           ),
@@ -97,8 +97,8 @@ returns-clause-ups g c =
     let engine = g.O.Objects.engine c.args.objects.now in
     subst (λ (r : Registry). AreUps r c.in_ok-ups.ups.items (length r.templates)) (sym c.requires.1.1) (ups-served engine ts ps _ _ (all-ups ts ps _ _ refl c.in_ok-ups.ensures))
 
-pub returns-clause-components_by_name : goal.returns-clause-components_by_name
-returns-clause-components_by_name g c =
+pub returns-clause-choices : goal.returns-clause-choices
+returns-clause-choices g c =
     let engine = g.O.Objects.engine c.args.objects.now in
-    let choices = c.in_ok-components_by_name.field-0.choices in
-    subst (λ (r : Registry). AreChosen r choices) (sym c.requires.1.1) (chosen-served engine c.args.templates.now c.args.prefixes.now choices c.in_ok-components_by_name.ensures.taken)
+    let choices = c.in_ok-choices.field-0.choices in
+    subst (λ (r : Registry). AreChosen r choices) (sym c.requires.1.1) (chosen-served engine c.args.templates.now c.args.prefixes.now choices c.in_ok-choices.ensures.taken)

@@ -12,7 +12,7 @@ use Rattle.tera_machine.specs.Paths.{Stands, Reaches, start_at, topped}
 use Rattle.tera_machine.proofs.Reaching.{alone_stands, begins, more, more_did, two_more, compared_comes, compared_breaks}
 use Rattle.tera_machine.proofs.configuration.Configuration.run_path.Given.{Over}
 use Rattle.tera_machine.proofs.configuration.Configuration.run_path.Goals as goal
-use Rattle.tera_machine.proofs.configuration.Configuration.run_path.Goals.{In-Some, In-Ok, In_default-tested}
+use Rattle.tera_machine.proofs.configuration.Configuration.run_path.Goals.{In-Some, In-Ok, In_default-branch_on}
 
 abbrev ok_or : {A E : Type 0} → A → Result A E → A
 ok_or d (Ok a) = a
@@ -31,7 +31,7 @@ reached : (g : Over) (c : In-Ok g) → Reaches (start_at (here_of g.O.Objects.en
 reached g c = c.in-Ok.ensures.ok _ refl (begins c.requires.there c.as_name_ref.ensures c.look-found.ensures c.in-Some.ensures)
 
 -- so it does where it is not tested
-untested : (g : Over) (c : In_default-tested g) → Reaches (start_at (here_of g.O.Objects.engine c.args.machine.now c.args.chunk.now.file c.args.self.now) c.args.at.now c.args.steps.now (config_of c.args.self.now)) c.args.chunk.now.code c.branch_on.new.at c.branch_on.new.steps c.in-Ok.reached
+untested : (g : Over) (c : In_default-branch_on g) → Reaches (start_at (here_of g.O.Objects.engine c.args.machine.now c.args.chunk.now.file c.args.self.now) c.args.at.now c.args.steps.now (config_of c.args.self.now)) c.args.chunk.now.code c.branch_on.new.at c.branch_on.new.steps c.in-Ok.reached
 untested g c =
     subst (λ p. Reaches (start_at (here_of g.O.Objects.engine c.args.machine.now c.args.chunk.now.file c.args.self.now) c.args.at.now c.args.steps.now (config_of c.args.self.now)) c.args.chunk.now.code p c.branch_on.new.steps c.in-Ok.reached) (sym c.in_default-branch_on.ensures.stays.0)
     (subst (λ n. Reaches (start_at (here_of g.O.Objects.engine c.args.machine.now c.args.chunk.now.file c.args.self.now) c.args.at.now c.args.steps.now (config_of c.args.self.now)) c.args.chunk.now.code c.attributes.new.at n c.in-Ok.reached) (sym c.in_default-branch_on.ensures.stays.1) (c.in-Ok.ensures.ok _ refl (begins c.requires.there c.as_name_ref.ensures c.look-found.ensures c.in-Some.ensures)))
@@ -60,54 +60,54 @@ returns-in-Some-branch_on g c = record {
 }
 
 pub overflow_add-at : goal.overflow_add-at
-overflow_add-at g c = omega (arith, (untested g (goal.at.overflow_add-at g c).In_default-tested).stands.there, c.requires.few)
+overflow_add-at g c = omega (arith, (untested g (goal.at.overflow_add-at g c).In_default-branch_on).stands.there, c.requires.few)
 
 pub overflow_add-at-then-writes_top_at : goal.overflow_add-at-then-writes_top_at
 overflow_add-at-then-writes_top_at g c =
-    omega (arith, (untested g (goal.at.overflow_add-at-then-writes_top_at g c).In_default-tested).stands.there, c.requires.few)
+    omega (arith, (untested g (goal.at.overflow_add-at-then-writes_top_at g c).In_default-branch_on).stands.there, c.requires.few)
 
 pub returns-then-writes_top_at : goal.returns-then-writes_top_at
 returns-then-writes_top_at g c =
-    let did = more_did (untested g (goal.at.returns-then-writes_top_at g c).In_default-tested) (c.if-writes_top_at.ensures.means refl) refl c.if-writes_top_at.ensures.count in
+    let did = more_did (untested g (goal.at.returns-then-writes_top_at g c).In_default-branch_on) (c.if-writes_top_at.ensures.means refl) refl c.if-writes_top_at.ensures.count in
     let put = subst (λ f. Effected (put_out (output (here_of g.O.Objects.engine c.args.machine.now f c.args.self.now) c.in-Ok.reached) (config_of c.args.self.now)) c.write_lent.result (config_of (record c.args.self.now { texts = c.write_lent.new.texts }))) c.file.ensures (c.write_lent.ensures c.args.self.now refl) in
     record {
-      stands = more (untested g (goal.at.returns-then-writes_top_at g c).In_default-tested) (c.if-writes_top_at.ensures.means refl) refl c.if-writes_top_at.ensures.count;
+      stands = more (untested g (goal.at.returns-then-writes_top_at g c).In_default-branch_on) (c.if-writes_top_at.ensures.means refl) refl c.if-writes_top_at.ensures.count;
       does = (subst (λ d. Effected d c.write_lent.result (config_of (record c.args.self.now { texts = c.write_lent.new.texts }))) (sym did) put, (refl, on_ok c.write_lent.result refl));
     }
 
 pub overflow_add-at-2 : goal.overflow_add-at-2
-overflow_add-at-2 g c = omega (arith, (untested g (goal.at.overflow_add-at-2 g c).In_default-tested).stands.there, c.requires.few)
+overflow_add-at-2 g c = omega (arith, (untested g (goal.at.overflow_add-at-2 g c).In_default-branch_on).stands.there, c.requires.few)
 
 pub returns-in_err-operand : goal.returns-in_err-operand
 returns-in_err-operand g c = record {
-  stands = subst (Stands (start_at (here_of g.O.Objects.engine c.args.machine.now c.args.chunk.now.file c.args.self.now) c.args.at.now c.args.steps.now (config_of c.args.self.now)) c.args.chunk.now.code c.branch_on.new.at) (sym (c.in_default-comparison_at.ensures.count ∙ c.if-writes_top_at.ensures.count)) (untested g (goal.at.returns-in_err-operand g c).In_default-tested).stands;
+  stands = subst (Stands (start_at (here_of g.O.Objects.engine c.args.machine.now c.args.chunk.now.file c.args.self.now) c.args.at.now c.args.steps.now (config_of c.args.self.now)) c.args.chunk.now.code c.branch_on.new.at) (sym (c.in_default-comparison_at.ensures.count ∙ c.if-writes_top_at.ensures.count)) (untested g (goal.at.returns-in_err-operand g c).In_default-branch_on).stands;
   does = ?;
 }
 
 pub returns-in_default-comparison_at : goal.returns-in_default-comparison_at
 returns-in_default-comparison_at g c =
-    let did = subst (λ n. done (here_of g.O.Objects.engine c.args.machine.now c.args.chunk.now.file c.args.self.now) c.args.chunk.now.code (suc (n - c.args.steps.now)) c.args.at.now (config_of c.args.self.now) ≡ Goes (topped c.in_ok-operand.operand (config_of c.args.self.now)) On) (sym (c.in_default-comparison_at.ensures.count ∙ c.if-writes_top_at.ensures.count)) ((untested g (goal.at.returns-in_default-comparison_at g c).In_default-tested).did ∙ ap (λ a. Goes (topped a (config_of c.args.self.now)) On) (ap (ok_or c.in-Ok.reached) c.in_ok-operand.ensures.operand)) in
+    let did = subst (λ n. done (here_of g.O.Objects.engine c.args.machine.now c.args.chunk.now.file c.args.self.now) c.args.chunk.now.code (suc (n - c.args.steps.now)) c.args.at.now (config_of c.args.self.now) ≡ Goes (topped c.in_ok-operand.operand (config_of c.args.self.now)) On) (sym (c.in_default-comparison_at.ensures.count ∙ c.if-writes_top_at.ensures.count)) ((untested g (goal.at.returns-in_default-comparison_at g c).In_default-branch_on).did ∙ ap (λ a. Goes (topped a (config_of c.args.self.now)) On) (ap (ok_or c.in-Ok.reached) c.in_ok-operand.ensures.operand)) in
     record {
-      stands = subst (Stands (start_at (here_of g.O.Objects.engine c.args.machine.now c.args.chunk.now.file c.args.self.now) c.args.at.now c.args.steps.now (config_of c.args.self.now)) c.args.chunk.now.code c.branch_on.new.at) (sym (c.in_default-comparison_at.ensures.count ∙ c.if-writes_top_at.ensures.count)) (untested g (goal.at.returns-in_default-comparison_at g c).In_default-tested).stands;
+      stands = subst (Stands (start_at (here_of g.O.Objects.engine c.args.machine.now c.args.chunk.now.file c.args.self.now) c.args.at.now c.args.steps.now (config_of c.args.self.now)) c.args.chunk.now.code c.branch_on.new.at) (sym (c.in_default-comparison_at.ensures.count ∙ c.if-writes_top_at.ensures.count)) (untested g (goal.at.returns-in_default-comparison_at g c).In_default-branch_on).stands;
       does = (subst (λ d. Effected d c.push_operand.result (config_of c.push_operand.new.self)) (sym did) c.push_operand.ensures.0, c.push_operand.ensures.1);
     }
 
 pub overflow_add-at-3 : goal.overflow_add-at-3
-overflow_add-at-3 g c = omega (arith, (two_more (untested g (goal.at.overflow_add-at-3 g c).In_default-tested) c.in-Some-comparison_at.ensures.means refl (c.in-Some-comparison_at.ensures.count ∙ ap (λ n. n + 2) c.if-writes_top_at.ensures.count)).there, c.requires.few)
+overflow_add-at-3 g c = omega (arith, (two_more (untested g (goal.at.overflow_add-at-3 g c).In_default-branch_on) c.in-Some-comparison_at.ensures.means refl (c.in-Some-comparison_at.ensures.count ∙ ap (λ n. n + 2) c.if-writes_top_at.ensures.count)).there, c.requires.few)
 
 pub test_or_push-requires : goal.test_or_push-requires
-test_or_push-requires g c = record { few = c.requires.few; there = (two_more (untested g (goal.at.test_or_push-requires g c).In_default-tested) c.in-Some-comparison_at.ensures.means refl (c.in-Some-comparison_at.ensures.count ∙ ap (λ n. n + 2) c.if-writes_top_at.ensures.count)).there }
+test_or_push-requires g c = record { few = c.requires.few; there = (two_more (untested g (goal.at.test_or_push-requires g c).In_default-branch_on) c.in-Some-comparison_at.ensures.means refl (c.in-Some-comparison_at.ensures.count ∙ ap (λ n. n + 2) c.if-writes_top_at.ensures.count)).there }
 
 pub returns-in-Ok-compare_with_constant : goal.returns-in-Ok-compare_with_constant
 returns-in-Ok-compare_with_constant g c = record {
-  stands = c.test_or_push.ensures.stands _ _ (compared_comes (config_of c.args.self.now) (untested g (goal.at.returns-in-Ok-compare_with_constant g c).In_default-tested) c.in-Some-comparison_at.ensures.means refl (c.in-Some-comparison_at.ensures.count ∙ ap (λ n. n + 2) c.if-writes_top_at.ensures.count) c.file-2.ensures c.in-Ok-compare_with_constant.ensures);
-  does = c.test_or_push.ensures.does _ (compared_comes (config_of c.args.self.now) (untested g (goal.at.returns-in-Ok-compare_with_constant g c).In_default-tested) c.in-Some-comparison_at.ensures.means refl (c.in-Some-comparison_at.ensures.count ∙ ap (λ n. n + 2) c.if-writes_top_at.ensures.count) c.file-2.ensures c.in-Ok-compare_with_constant.ensures);
+  stands = c.test_or_push.ensures.stands _ _ (compared_comes (config_of c.args.self.now) (untested g (goal.at.returns-in-Ok-compare_with_constant g c).In_default-branch_on) c.in-Some-comparison_at.ensures.means refl (c.in-Some-comparison_at.ensures.count ∙ ap (λ n. n + 2) c.if-writes_top_at.ensures.count) c.file-2.ensures c.in-Ok-compare_with_constant.ensures);
+  does = c.test_or_push.ensures.does _ (compared_comes (config_of c.args.self.now) (untested g (goal.at.returns-in-Ok-compare_with_constant g c).In_default-branch_on) c.in-Some-comparison_at.ensures.means refl (c.in-Some-comparison_at.ensures.count ∙ ap (λ n. n + 2) c.if-writes_top_at.ensures.count) c.file-2.ensures c.in-Ok-compare_with_constant.ensures);
 }
 
 pub returns-in-Err-compare_with_constant : goal.returns-in-Err-compare_with_constant
 returns-in-Err-compare_with_constant g c = record {
-  stands = two_more (untested g (goal.at.returns-in-Err-compare_with_constant g c).In_default-tested) c.in-Some-comparison_at.ensures.means refl (c.in-Some-comparison_at.ensures.count ∙ ap (λ n. n + 2) c.if-writes_top_at.ensures.count);
-  does = (compared_breaks (config_of c.args.self.now) (untested g (goal.at.returns-in-Err-compare_with_constant g c).In_default-tested) c.in-Some-comparison_at.ensures.means refl (c.in-Some-comparison_at.ensures.count ∙ ap (λ n. n + 2) c.if-writes_top_at.ensures.count) c.file-2.ensures c.in-Err-compare_with_constant.error c.in-Err-compare_with_constant.ensures _, (refl, tt));
+  stands = two_more (untested g (goal.at.returns-in-Err-compare_with_constant g c).In_default-branch_on) c.in-Some-comparison_at.ensures.means refl (c.in-Some-comparison_at.ensures.count ∙ ap (λ n. n + 2) c.if-writes_top_at.ensures.count);
+  does = (compared_breaks (config_of c.args.self.now) (untested g (goal.at.returns-in-Err-compare_with_constant g c).In_default-branch_on) c.in-Some-comparison_at.ensures.means refl (c.in-Some-comparison_at.ensures.count ∙ ap (λ n. n + 2) c.if-writes_top_at.ensures.count) c.file-2.ensures c.in-Err-compare_with_constant.error c.in-Err-compare_with_constant.ensures _, (refl, tt));
 }
 
 pub returns-in_err-to_value : goal.returns-in_err-to_value

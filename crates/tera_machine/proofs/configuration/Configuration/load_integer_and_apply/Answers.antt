@@ -4,7 +4,8 @@ use Rattle.std.proofs.lemmas.Option.{slice_get_within}
 use Rattle.tera_values.specs.Val.{int}
 use Rattle.tera_operators.specs.Operators.{binary_of}
 use Rattle.tera_machine.specs.Config.{config_of}
-use Rattle.tera_machine.specs.Effect.{Effected, on_one}
+use Rattle.tera_machine.specs.Did.{pushed}
+use Rattle.tera_machine.specs.Effect.{Does, Effected, continue_after, on_one}
 use Rattle.tera_machine.specs.Subject.{here_of}
 use Rattle.tera_machine.proofs.Loaded.{loads, two_is_one}
 use Rattle.tera_machine.proofs.Reaching.{more, more_did, ran_so}
@@ -12,7 +13,8 @@ use Rattle.tera_machine.proofs.configuration.Configuration.load_integer_and_appl
 
 pub returns-then-is_empty : goal.returns-then-is_empty
 returns-then-is_empty g c =
-    ran_so g.O.Objects.engine c.args.machine.now c.args.chunk.now c.requires.there refl refl c.continue_after.ensures c.load_integer.ensures
+    let did = subst (λ z. Does (pushed (int z) c.args.span) c.args.self.now (continue_after c.load_integer.result) c.load_integer.new.self) (to_z-of_z w64 c.args.number c.ranges.number) c.load_integer.ensures in
+    ran_so g.O.Objects.engine c.args.machine.now c.args.chunk.now c.requires.there refl refl c.continue_after.ensures did
 
 pub overflow_add-at : goal.overflow_add-at
 overflow_add-at g c = omega (arith, slice_get_within c.args.chunk.now.code c.args.at.now _ c.requires.there, c.requires.few)
@@ -33,4 +35,5 @@ returns-in-Some g c =
 
 pub returns-in-None : goal.returns-in-None
 returns-in-None g c =
-    ran_so g.O.Objects.engine c.args.machine.now c.args.chunk.now c.requires.there refl c.in-None.ensures.count c.continue_after-in-None.ensures c.load_integer-in-None.ensures
+    let did = subst (λ z. Does (pushed (int z) c.args.span) c.args.self.now (continue_after c.load_integer-in-None.result) c.load_integer-in-None.new.self) (to_z-of_z w64 c.args.number c.ranges.number) c.load_integer-in-None.ensures in
+    ran_so g.O.Objects.engine c.args.machine.now c.args.chunk.now c.requires.there refl c.in-None.ensures.count c.continue_after-in-None.ensures did

@@ -1,4 +1,4 @@
-use Rattle.std.proofs.Common.{arith, refl, sym, ap, subst, ◌∙◌, ◌+◌, ◌-◌, ◌≡◌, suc, Ok, Err, Result, OnOk}
+use Rattle.std.proofs.Common.{arith, rules, refl, sym, ap, subst, ◌∙◌, ◌+◌, ◌-◌, ◌≡◌, suc, Ok, Err, Result, OnOk}
 use Rattle.std.proofs.lemmas.Option.{slice_get_within}
 use Rattle.tera_values.specs.Val.{undefined}
 use Rattle.tera_meaning.specs.Meaning.{output}
@@ -81,7 +81,7 @@ overflow_add-at-2 g c = omega (arith, (untested g (goal.at.overflow_add-at-2 g c
 pub returns-in_err-operand : goal.returns-in_err-operand
 returns-in_err-operand g c = record {
   stands = subst (Stands (start_at (here_of g.O.Objects.engine c.args.machine.now c.args.chunk.now.file c.args.self.now) c.args.at.now c.args.steps.now (config_of c.args.self.now)) c.args.chunk.now.code c.branch_on.new.at) (sym (c.in_default-comparison_at.ensures.count ∙ c.if-writes_top_at.ensures.count)) (untested g (goal.at.returns-in_err-operand g c).In_default-branch_on).stands;
-  does = ?;
+  does = search rules;
 }
 
 pub returns-in_default-comparison_at : goal.returns-in_default-comparison_at
@@ -113,7 +113,7 @@ returns-in-Err-compare_with_constant g c = record {
 pub returns-in_err-to_value : goal.returns-in_err-to_value
 returns-in_err-to_value g c = record {
   stands = alone_stands _ c.requires.there;
-  does = ?;
+  does = search rules;
 }
 
 pub finish_path-requires : goal.finish_path-requires

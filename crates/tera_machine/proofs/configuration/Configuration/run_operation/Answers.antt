@@ -11,7 +11,7 @@ returns-then-is_write_top g c = ran_alone c.requires (c.if-is_write_top.ensures.
 
 pub returns-in-Some-as_attribute : goal.returns-in-Some-as_attribute
 returns-in-Some-as_attribute g c =
-    let did = subst (λ name. Does (attribute_loaded c.file-in-Some-as_attribute.result.now name c.in-Some-as_attribute.optional c.in-Some-as_attribute.span) c.args.self.now c.load_attribute.result c.load_attribute.new.self) c.as_str.ensures.value c.load_attribute.ensures in
+    let did = subst (λ name. Does (attribute_loaded c.file-in-Some-as_attribute.result.now name c.in-Some-as_attribute.optional c.in-Some-as_attribute.span) c.args.self.now c.load_attribute.result c.load_attribute.new.self) c.as_str.ensures c.load_attribute.ensures in
     ran_alone c.requires c.in-Some-as_attribute.ensures.means c.file-in-Some-as_attribute.ensures did
 
 pub returns-in-Some-as_store : goal.returns-in-Some-as_store

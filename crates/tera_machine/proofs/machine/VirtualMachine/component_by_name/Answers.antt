@@ -9,7 +9,7 @@ returns-in-Some-clause-defined g c =
     let w = g.M.Limit.world in
     let name = c.args.name.now in
     let is = defined_in w c.args.here name (Some c.in-Some.component) c.requires.here (c.in-Some.ensures.defined w.registry name (taken_before c.requires.takes)) in
-    defined_first (component w.registry name) (component_named one_off_name name w.one_off_component) c.in-Some.component is
+    defined_first (component w.registry name) (component_named one_off_name name w.beside) c.in-Some.component is
 
 pub returns-in-Some-clause-linked : goal.returns-in-Some-clause-linked
 returns-in-Some-clause-linked g c =
@@ -20,4 +20,4 @@ returns-in-None-clause-defined g c =
     let w = g.M.Limit.world in
     let name = c.args.name.now in
     let none = defined_in w c.args.here name None c.requires.here (c.in-None.ensures.defined w.registry name (taken_before c.requires.takes)) in
-    defined_else (component w.registry name) (component_named one_off_name name w.one_off_component) c.one_off_component.result none (defined_beside c.args.self.now w name c.one_off_component.result c.requires.linked c.one_off_component.ensures.first)
+    defined_else (component w.registry name) (component_named one_off_name name w.beside) c.one_off_component.result none (defined_beside c.args.self.now w name c.one_off_component.result c.requires.linked c.one_off_component.ensures.first)

@@ -8,7 +8,7 @@ use Rattle.tera_machine.specs.OpenThings.{one_fewer, ended_at}
 use Rattle.tera_machine.specs.Apart.{Rejoins}
 use Rattle.tera_machine.specs.Open.{machine_by, left_by}
 use Rattle.tera_machine.specs.WantedBlock.{Noted, ended_by}
-use Rattle.tera_machine.proofs.machine.VirtualMachine.leave.Goals.{in-Taken+in_ok-end_body-in-Taken, in-Included+in_ok-end_include-in-Included, in-Called+in_ok-end_component-in-Called}
+use Rattle.tera_machine.proofs.machine.VirtualMachine.leave.Goals.{in-Block+in_ok-end_body-in-Block, in-Include+in_ok-end_include-in-Include, in-Component+in_ok-end_component-in-Component}
 use Rattle.tera_machine.proofs.machine.VirtualMachine.leave.Goals as goal
 
 pub returns-clause-ok : goal.returns-clause-ok

@@ -76,7 +76,7 @@ lacking d None c h = tt
 lacking d (Some fault) c h = (let q : Some fault ≡ None = h in cc)
 
 -- where memory is refused nothing is said of what was done
-pub lacking_does : (f : Config → Did) (before : Configuration) (x : SeenError) → Lacks x → Does f before (Err x) before
+lacking_does : (f : Config → Did) (before : Configuration) (x : SeenError) → Lacks x → Does f before (Err x) before
 lacking_does f before x h = (lacking (f (config_of before)) x (config_of before) h, (refl, tt))
 
 -- and it is refused before anything is done

@@ -1,4 +1,4 @@
-use Rattle.std.proofs.Common.{◌≡◌, ◌∷◌, List, sym, ap, ◌∙◌, subst}
+use Rattle.std.proofs.Common.{◌≡◌, List, sym, ap, ◌∙◌, subst}
 use Rattle.tera_operators.specs.Operand.{Evaluated, Outcome}
 use Rattle.tera_operators.specs.Operators.{binary_of}
 use Rattle.tera_machine.specs.Config.{Config, config_of}

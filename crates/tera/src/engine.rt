@@ -10,7 +10,7 @@ ghost use Rattle.tera.specs.Rendering.{OneOff, AppendsOneOf};
 ghost use Rattle.tera.specs.Configuring.{Configures, with_delimiters, with_prefixes, with_suffixes};
 ghost use Rattle.tera.specs.Lent.{texts_of};
 
-use crate::texts::{copies_of, standard_suffixes};
+use crate::texts::{append_text, copies_of, standard_suffixes};
 use std::alloc::Global;
 use tera_code::{Steps, Tally};
 use tera_registry::Templates;

@@ -147,8 +147,10 @@ module _ (order : List ℕ) (es : Pairs) (ix : IsIndex order es) (k : KeyVal) (i
   pub stands_found : find k es ≡ Some (value_at es i)
   stands_found = found order es ix k s.place s.at ∙ ap (λ (j : ℕ). Some (value_at es j)) s.is
 
-  pub stands_written : (v : Val) → insert_pair es k v ≡ set es i (key_at es i, v)
-  stands_written v = written order es ix k s.place v s.at ∙ ap (λ (j : ℕ). set es j (key_at es j, v)) s.is
+  pub stands_written : {now : Pairs} → es ≡ now → (v : Val) → set now i (key_at now i, v) ≡ insert_pair now k v
+  stands_written {now} view v =
+      let step : insert_pair es k v ≡ set es i (key_at es i, v) = written order es ix k s.place v s.at ∙ ap (λ (j : ℕ). set es j (key_at es j, v)) s.is in
+      subst (λ (fs : Pairs). set fs i (key_at fs i, v) ≡ insert_pair fs k v) view (sym step)
 
 -- the same pieces of the same entries
 pub kept_again : (o q : KeyOrder) (es fs : Pairs) → pieces q ≡ pieces o → fs ≡ es → IsKept o es → IsKept q fs

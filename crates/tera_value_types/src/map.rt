@@ -107,4 +107,17 @@ impl Map {
             }
         }
     }
+
+    /// The same at a text key. A key that is there takes no memory.
+    pub fn insert_text(&mut self, name: &str, value: Value) -> TeraResult<()>
+        ensures ok { OnOk result (self.new ≡ insert_pair self.old (ktext name.now) value) }
+        ensures err { OnErr result (self.new ≡ self.old) }
+        ensures there { IsSome (find (ktext name.now) self.old) → IsOk result }
+        ensures lacks { IfErr result Lacks }
+    {
+        match &mut self.table {
+            Some(table) => table.insert_text(name, value),
+            None => self.insert(Key::Text(String::from_str(self.alloc, name)?), value),
+        }
+    }
 }

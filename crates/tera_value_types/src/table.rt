@@ -1,9 +1,9 @@
 // The table of a map: entries in order of insertion, found by key.
-ghost use Rattle.std.specs.Prelude.{◌≡◌, [], IfOk, IfErr, OnOk, OnErr, IsSome, IsOk, length, option_copied, option_map, slice_get};
+ghost use Rattle.std.specs.Prelude.{◌≡◌, ◌<◌, [], IfOk, IfErr, OnOk, OnErr, IsSome, IsOk, length, option_copied, option_map, slice_get, slice_set};
 ghost use Rattle.tera_errors.specs.Prelude.{Lacks};
 ghost use Rattle.tera_value_types.specs.Val.{ktext};
 ghost use Rattle.tera_value_types.specs.View.{key_view, wanted_view, entry_views};
-ghost use Rattle.tera_value_types.specs.Index.{IsDistinct};
+ghost use Rattle.tera_value_types.specs.Index.{IsDistinct, key_at};
 ghost use Rattle.tera_value_types.specs.Access.{find, insert_pair, key_eq};
 
 use crate::key::{Key, KeyRef};
@@ -90,8 +90,7 @@ impl EntryTable {
     {
         match self.by_key.find(self.all.as_slice(), &key.as_key_ref()) {
             Ok(position) => {
-                let old = replace(&mut self.all[position].value, value);
-                drop(old);
+                self.write(position, value);
                 drop(key);
                 Ok(())
             }
@@ -107,5 +106,33 @@ impl EntryTable {
                 }
             }
         }
+    }
+
+    /// The same at a text key, of which a copy is made only where it is new.
+    pub(crate) fn insert_text(&mut self, name: &str, value: Value) -> TeraResult<()>
+        ensures ok { OnOk result (self.new ≡ insert_pair self.old (ktext name.now) value) }
+        ensures err { OnErr result (self.new ≡ self.old) }
+        ensures there { IsSome (find (ktext name.now) self.old) → IsOk result }
+        ensures lacks { IfErr result Lacks }
+    {
+        match self.by_key.find(self.all.as_slice(), &KeyRef::Text(name)) {
+            Ok(position) => {
+                self.write(position, value);
+                Ok(())
+            }
+            Err(_) => {
+                let name = String::from_str(*self.all.allocator(), name)?;
+                self.insert(Key::Text(name), value)
+            }
+        }
+    }
+
+    /// Puts the value in place of the one at a position.
+    fn write(&mut self, position: usize, value: Value)
+        requires { position < length self.old }
+        ensures { self.new ≡ slice_set self.old position (key_at self.old position, value) }
+    {
+        let old = replace(&mut self.all[position].value, value);
+        drop(old);
     }
 }

@@ -1,4 +1,4 @@
-use Rattle.std.proofs.Common.{◌≡◌, length, sym, ap, ◌∙◌, set, arith, refl, ◌<◌, subst, [], ◌∷◌, ◌++◌}
+use Rattle.std.proofs.Common.{◌≡◌, length, sym, ap, ◌∙◌, arith, subst, [], ◌∷◌, ◌++◌}
 use Rattle.std.specs.List.{insert}
 use Rattle.std.proofs.lemmas.Grind.{common_steps}
 use Rattle.tera_value_types.specs.View.{wanted_view, key_view, entry_views}
@@ -6,22 +6,10 @@ use Rattle.tera_value_types.specs.Access.{insert_pair}
 use Rattle.tera_value_types.specs.Index.{IsIndex}
 use Rattle.tera_value_types.specs.KeyOrder.{flat, place_of, Stands, HasGap}
 use Rattle.tera_value_types.specs.declared.value.Entry.{Entry}
-use Rattle.tera_value_types.proofs.Positions.{not_there, kept, grown, pushed}
-use Rattle.tera_value_types.proofs.Ordered.{stands_below, stands_written}
-use Rattle.tera_value_types.proofs.Entries.{views_length, write_views, push_views}
+use Rattle.tera_value_types.proofs.Positions.{not_there, grown, pushed}
+use Rattle.tera_value_types.proofs.Ordered.{stands_written}
+use Rattle.tera_value_types.proofs.Entries.{views_length, push_views}
 use Rattle.tera_value_types.proofs.value.EntryTable.insert.Goals as goal
-
-pub invariant_of-self : goal.invariant_of-self
-invariant_of-self c =
-    let all = c.self.inside.all.items in
-    let order = flat c.self.inside.by_key in
-    let i = c.in-Ok.position in
-    let stands : Stands order (entry_views all) (wanted_view c.as_key_ref.result) i = rw c.as_slice.ensures.value at c.in-Ok.ensures.found in
-    let below = stands_below order (entry_views all) c.self.invariant.index (wanted_view c.as_key_ref.result) i stands in
-    let there : i < length all = omega (arith, below, views_length all) in
-    let e : Entry = record { key = c.index_mut.result.now.key; value = c.replace-old.new.dest } in
-    let same : IsIndex order (entry_views (set all i e)) = rw (write_views all i c.index_mut.result.now c.args.value there c.index_mut.ensures.value e refl c.replace-old.ensures.after) (kept order (entry_views all) c.self.invariant.index i c.args.value) in
-    record { full = c.self.invariant.full; index = same }
 
 pub returns-in-Ok-clause-ok : goal.returns-in-Ok-clause-ok
 returns-in-Ok-clause-ok c =
@@ -30,11 +18,7 @@ returns-in-Ok-clause-ok c =
     let i = c.in-Ok.position in
     let stands0 : Stands order (entry_views all) (wanted_view c.as_key_ref.result) i = rw c.as_slice.ensures.value at c.in-Ok.ensures.found in
     let stands : Stands order (entry_views all) (key_view c.args.key) i = subst (λ k. Stands order (entry_views all) k i) c.as_key_ref.ensures stands0 in
-    let below = stands_below order (entry_views all) c.self.invariant.index (key_view c.args.key) i stands in
-    let there : i < length all = omega (arith, below, views_length all) in
-    let e : Entry = record { key = c.index_mut.result.now.key; value = c.replace-old.new.dest } in
-    let step : entry_views (set all i e) ≡ insert_pair (entry_views all) (key_view c.args.key) c.args.value = write_views all i c.index_mut.result.now c.args.value there c.index_mut.ensures.value e refl c.replace-old.ensures.after ∙ sym (stands_written order (entry_views all) c.self.invariant.index (key_view c.args.key) i stands c.args.value) in
-    step ∙ ap (λ es. insert_pair es (key_view c.args.key) c.args.value) c.self.view_is
+    c.write.ensures ∙ stands_written order (entry_views all) c.self.invariant.index (key_view c.args.key) i stands c.self.view_is c.args.value
 
 pub invariant_of-self-in-Ok-fill : goal.invariant_of-self-in-Ok-fill
 invariant_of-self-in-Ok-fill c =

@@ -2,7 +2,8 @@
 use Rattle.std.proofs.Common.{◌≡◌, inl, inr, Result, Ok, Err, sym, ap, ◌∙◌, subst}
 use Rattle.toml.specs.Data.{Data, string, integer, float, boolean, datetime, array as list, table, Items, no_items, item, Members, no_members, member}
 use Rattle.tera_errors.specs.Prelude.{Fault}
-use Rattle.tera_data.specs.Toml.{Follows, OfFloat, OfItems, OfMembers, OfToml}
+use Rattle.tera_data.specs.Values.{Follows}
+use Rattle.tera_data.specs.Toml.{OfFloat, OfItems, OfMembers, OfToml}
 use Rattle.tera_data.specs.Laws.{TomlHasOneAnswer}
 use Rattle.tera_data.specs.declared.number.Floats.TheVariants as floats
 use Rattle.std.specs.Prelude.{Float}

@@ -5,8 +5,8 @@ use Rattle.tera_errors.specs.Prelude.{Fault, Name}
 use Rattle.tera_errors.specs.Answer.{SaysOneOf, SeenError}
 use Rattle.tera_value_types.specs.Val.{KeyVal, Val}
 use Rattle.tera_values.specs.Named.{Named, text_keys}
-use Rattle.tera_data.specs.Values.{once}
-use Rattle.tera_data.specs.Toml.{Follows, OfItems, OfMembers, OfToml}
+use Rattle.tera_data.specs.Values.{Follows, once}
+use Rattle.tera_data.specs.Toml.{OfItems, OfMembers, OfToml}
 use Rattle.tera_data.specs.declared.number.Floats.{Floats}
 use Rattle.tera_data.proofs.Members.{placed, placed_none}
 

@@ -1,5 +1,5 @@
 -- What a value of TOML is for a template.
-use Rattle.std.specs.Prelude.{◌≡◌, ◌⊎◌, List, [], ◌∷◌, false, Float, Result, Ok, Err}
+use Rattle.std.specs.Prelude.{◌≡◌, List, [], ◌∷◌, false, Float, Result, Ok, Err}
 use Rattle.std.specs.Option.{ok_or}
 use Rattle.toml.specs.Data.{Data, string, integer, float, boolean, datetime, array as list, table, Items, no_items, item, Members, no_members, member}
 use Rattle.toml.specs.Parse.{parse_document}
@@ -8,15 +8,9 @@ use Rattle.toml_writer.specs.Text.{IsFloatText}
 use Rattle.tera_errors.specs.Prelude.{Fault, message, Text}
 use Rattle.tera_value_types.specs.Val.{Val, bool, int, text, array, map, vals, entries}
 use Rattle.tera_values.specs.Named.{Named, put_all, text_keys}
-use Rattle.tera_data.specs.Values.{once}
+use Rattle.tera_data.specs.Values.{once, Follows}
 use Rattle.tera_data.specs.Numbers.{of_other}
 use Rattle.tera_data.specs.declared.number.Floats.{Floats}
-
--- what may follow from what may be there; a fault stays
-abbrev pub Follows : {A B : Type 0} → (Result A Fault → Type 0) → (A → Result B Fault → Type 0)
-    → Result B Fault → Type 0
-Follows {A} There Next r =
-    ((fault : Fault) × There (Err fault) × (r ≡ Err fault)) ⊎ ((a : A) × There (Ok a) × Next a r)
 
 -- a float: as any number that is no integer, by a text that reads back as the float
 abbrev pub OfFloat : Floats → Float → Result Val Fault → Type 0

@@ -1,5 +1,5 @@
 -- What a value of JSON is for a template.
-use Rattle.std.specs.Prelude.{List, [], ◌∷◌, unwrap_or, false, Result, Ok, Err}
+use Rattle.std.specs.Prelude.{◌≡◌, ◌⊎◌, List, [], ◌∷◌, unwrap_or, false, Result, Ok, Err}
 use Rattle.std.specs.Option.{ok_or}
 use Rattle.json.specs.Json.{Json, null, boolean, number, string, array as list, object, Items, no_items, item, Members, no_members, member, document}
 use Rattle.tera_errors.specs.Prelude.{Fault, message, Name, Text}
@@ -12,6 +12,12 @@ use Rattle.tera_data.specs.declared.number.Floats.{Floats}
 abbrev pub then : {A B : Type 0} → Result A Fault → (A → Result B Fault) → Result B Fault
 then (Ok a) next = next a
 then (Err fault) next = Err fault
+
+-- the same, where more than one answer may be there or follow; a fault stays
+abbrev pub Follows : {A B : Type 0} → (Result A Fault → Type 0) → (A → Result B Fault → Type 0)
+    → Result B Fault → Type 0
+Follows {A} There Next r =
+    ((fault : Fault) × There (Err fault) × (r ≡ Err fault)) ⊎ ((a : A) × There (Ok a) × Next a r)
 
 -- a member in front of others: it takes the value of the one among them that has its name, and that
 -- one goes

@@ -1,7 +1,8 @@
 // Texts of JSON as values and as contexts.
-ghost use Rattle.std.specs.Prelude.{◌≡◌, IfErr, IfOk, IsUtf8, OnErr};
+ghost use Rattle.std.specs.Prelude.{◌≡◌, IfErr, IfOk, IsUtf8, OnErr, OnOk};
 ghost use Rattle.json.specs.Value.{value_view};
-ghost use Rattle.tera_errors.specs.Prelude.{Gives, Tells, message};
+ghost use Rattle.tera_errors.specs.Prelude.{Gives, Lacks, Tells, message};
+ghost use Rattle.tera_values.specs.Named.{put_all};
 ghost use Rattle.tera_data.specs.Contexts.{context_in, of_object, over};
 ghost use Rattle.tera_data.specs.Values.{read, value_in};
 
@@ -45,8 +46,17 @@ pub fn put_json(context: &mut Context, text: &str, floats: Floats) -> TeraResult
     ensures err { OnErr result (context.new ≡ context.old) }
 {
     let data = json_context(context.alloc(), text, floats)?;
+    lay_over(context, &data)
+}
+
+/// Puts all of the data over the context, name by name, all of it or nothing.
+pub(crate) fn lay_over(context: &mut Context, data: &Context) -> TeraResult<()>
+    ensures ok { OnOk result (context.new ≡ put_all data.now context.old) }
+    ensures err { OnErr result (context.new ≡ context.old) }
+    ensures lacks { IfErr result Lacks }
+{
     let mut all = context.try_clone()?;
-    all.put_all(&data)?;
+    all.put_all(data)?;
     *context = all;
     Ok(())
 }

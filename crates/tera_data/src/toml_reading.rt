@@ -5,6 +5,7 @@ ghost use Rattle.tera_errors.specs.Prelude.{Gives, GivesOneOf};
 ghost use Rattle.tera_data.specs.Toml.{Over, TomlContextIn, TomlIn, read_toml};
 
 use crate::number::Floats;
+use crate::reading::lay_over;
 use crate::toml_tables::{context_of, map_of};
 use crate::words::{no_toml, with_path};
 use std::alloc::Global;
@@ -43,10 +44,7 @@ pub fn put_toml(context: &mut Context, text: &str, floats: Floats) -> TeraResult
     ensures err { OnErr result (context.new ≡ context.old) }
 {
     let data = toml_context(context.alloc(), text, floats)?;
-    let mut all = context.try_clone()?;
-    all.put_all(&data)?;
-    *context = all;
-    Ok(())
+    lay_over(context, &data)
 }
 
 fn read(alloc: Global, text: &str) -> TeraResult<Table>

@@ -6,8 +6,8 @@ ghost use Rattle.toml_datetime.specs.Text.{datetime_text};
 ghost use Rattle.tera_errors.specs.Prelude.{Gives, GivesOneOf};
 ghost use Rattle.tera_value_types.specs.Val.{text};
 ghost use Rattle.tera_values.specs.Named.{text_keys};
-ghost use Rattle.tera_data.specs.Values.{once};
-ghost use Rattle.tera_data.specs.Toml.{Follows, OfFloat, OfItems, OfMembers, OfTable, OfToml};
+ghost use Rattle.tera_data.specs.Values.{Follows, once};
+ghost use Rattle.tera_data.specs.Toml.{OfFloat, OfItems, OfMembers, OfTable, OfToml};
 
 use crate::number::{Floats, value_of_other};
 use crate::words::{at_item, at_member};

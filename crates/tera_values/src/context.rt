@@ -1,9 +1,12 @@
 // What a rendering is given: values by name.
-ghost use Rattle.std.specs.Prelude.{◌≡◌, [], ◌∷◌, Ok, IfErr, OnOk, OnErr, map, option_copied, string_bytes};
+ghost use Rattle.std.specs.Prelude.{◌≡◌, [], ◌∷◌, false, Ok, IfErr, OnOk, OnErr, bytes_eq, map, option_copied, string_bytes};
+ghost use Rattle.std.specs.List.{IsDistinct};
 ghost use Rattle.tera_errors.specs.Prelude.{Gives, Lacks};
-ghost use Rattle.tera_value_types.specs.Prelude.{entries, map as map_of};
+ghost use Rattle.tera_value_types.specs.Prelude.{bool, entries, int, map as map_of, text};
 ghost use Rattle.tera_values.specs.Named.{at_name, put, put_all, text_keys, with_names, without_names, IsAscending};
+ghost use Rattle.tera_values.specs.Names.{by_name};
 
+use crate::context_entries::ContextEntries;
 use crate::name::{Name, NameRef};
 use indexmap::IndexMap;
 use std::alloc::Global;
@@ -67,6 +70,33 @@ impl Context {
         )
     }
 
+    /// The same for a boolean.
+    pub fn insert_bool(&mut self, name: &str, flag: bool) -> TeraResult<()>
+        ensures ok { OnOk result (self.new ≡ put name.now (bool flag) self.old) }
+        ensures err { OnErr result (self.new ≡ self.old) }
+        ensures lacks { IfErr result Lacks }
+    {
+        self.insert(name, Value::from(flag))
+    }
+
+    /// The same for an integer.
+    pub fn insert_int(&mut self, name: &str, number: i64) -> TeraResult<()>
+        ensures ok { OnOk result (self.new ≡ put name.now (int number) self.old) }
+        ensures err { OnErr result (self.new ≡ self.old) }
+        ensures lacks { IfErr result Lacks }
+    {
+        self.insert(name, Value::from(number))
+    }
+
+    /// The same for a text, without the safe mark.
+    pub fn insert_text(&mut self, name: &str, content: &str) -> TeraResult<()>
+        ensures ok { OnOk result (self.new ≡ put name.now (text content.now false) self.old) }
+        ensures err { OnErr result (self.new ≡ self.old) }
+        ensures lacks { IfErr result Lacks }
+    {
+        self.insert(name, Value::string(self.alloc(), content)?)
+    }
+
     // The same by a name and a value that are shared already: both are kept as they lie.
     fn put(&mut self, name: Name, value: Value) -> TeraResult<()>
         ensures ok { OnOk result (self.new ≡ put name value self.old) }
@@ -90,6 +120,14 @@ impl Context {
         ensures { option_copied result ≡ at_name name.now self.now }
     {
         self.names.get(name)
+    }
+
+    /// The names with their values, in no set order. Takes no memory.
+    pub fn iter(&self) -> ContextEntries<'_>
+        ensures all { by_name result ≡ self.now }
+        ensures once { IsDistinct bytes_eq (map (λ e. e.0) result) }
+    {
+        ContextEntries::new(self.names.iter())
     }
 
     /// Puts all values of the other at their names.
@@ -136,7 +174,7 @@ impl Context {
         Ok(copy)
     }
 
-    // Takes out what stands at the name. The order in which names were put is lost, and nobody sees it.
+    // Takes out what stands at the name. The order in which names were put is lost: none is promised.
     fn leave_out(&mut self, name: &str)
         ensures { self.new ≡ without_names (name.now ∷ []) self.old }
     {

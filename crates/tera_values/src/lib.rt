@@ -4,6 +4,7 @@
 pub mod argument;
 pub mod arguments;
 pub mod context;
+pub mod context_entries;
 pub mod counter;
 pub mod kwargs;
 pub mod laws;
@@ -15,9 +16,12 @@ pub mod string_input;
 pub use argument::ArgFromValue;
 pub use arguments::Arguments;
 pub use context::Context;
+pub use context_entries::ContextEntries;
 pub use counter::Counter;
 pub use kwargs::Kwargs;
 pub use name::{Name, NameRef};
 pub use string_input::{StringInput, WritesValues};
 pub use tera_errors::{Error, ErrorKind, ReportError, Span, TeraResult};
-pub use tera_value_types::{Key, Map, Shape, Value, ValueKind, escape_html, escape_xml};
+pub use tera_value_types::{
+    Key, Map, MapEntries, Shape, Value, ValueKind, escape_html, escape_xml,
+};

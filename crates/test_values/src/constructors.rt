@@ -15,6 +15,7 @@ fn scalars_are_made(alloc: Global) -> bool {
         && is_value(alloc, &Value::from(u32::MAX), "int 4294967295")
         && is_value(alloc, &Value::from(u64::MAX), "int 18446744073709551615")
         && is_value(alloc, &Value::from(7_usize), "int 7")
+        && is_value(alloc, &Value::from(8), "int 8")
 }
 
 /// A key that is there gets a second value.

@@ -50,6 +50,41 @@ pub enum BuiltInFilter {
     GroupBy,
 }
 
+/// The names of the filters, for guesses at names that are misspelled.
+pub const FILTERS: [&str; 31] = [
+    "safe",
+    "default",
+    "wordcount",
+    "escape",
+    "escape_html",
+    "escape_xml",
+    "newlines_to_br",
+    "pluralize",
+    "trim",
+    "trim_start",
+    "trim_end",
+    "replace",
+    "truncate",
+    "indent",
+    "str",
+    "int",
+    "length",
+    "reverse",
+    "split",
+    "abs",
+    "first",
+    "last",
+    "nth",
+    "join",
+    "sort",
+    "unique",
+    "values",
+    "keys",
+    "pairs",
+    "get",
+    "group_by",
+];
+
 impl BuiltInFilter {
     /// The one with this name, if there is one. Only names of its length are compared with it.
     pub fn by_name(name: &str) -> Option<BuiltInFilter>

@@ -15,6 +15,9 @@ pub enum BuiltInFunction {
     Throw,
 }
 
+/// The names of the functions, for guesses at names that are misspelled.
+pub const FUNCTIONS: [&str; 2] = ["range", "throw"];
+
 impl BuiltInFunction {
     /// The one with this name, if there is one.
     pub fn by_name(name: &str) -> Option<BuiltInFunction>

@@ -29,6 +29,26 @@ pub enum BuiltInTest {
     Containing,
 }
 
+/// The names of the tests, for guesses at names that are misspelled.
+pub const TESTS: [&str; 16] = [
+    "string",
+    "number",
+    "map",
+    "bool",
+    "array",
+    "integer",
+    "none",
+    "iterable",
+    "defined",
+    "undefined",
+    "odd",
+    "even",
+    "divisible_by",
+    "starting_with",
+    "ending_with",
+    "containing",
+];
+
 impl BuiltInTest {
     /// The one with this name, if there is one. Only names of its length are compared with it.
     pub fn by_name(name: &str) -> Option<BuiltInTest>

@@ -16,7 +16,6 @@ pub mod join;
 pub mod laws;
 pub mod maps;
 pub mod markup_filters;
-pub mod names;
 pub mod numbers;
 pub mod parse;
 mod refusals;
@@ -33,7 +32,7 @@ pub mod trims;
 pub mod truncate;
 pub mod words;
 
-pub use built_in_filter::BuiltInFilter;
-pub use built_in_function::BuiltInFunction;
-pub use built_in_test::BuiltInTest;
+pub use built_in_filter::{BuiltInFilter, FILTERS};
+pub use built_in_function::{BuiltInFunction, FUNCTIONS};
+pub use built_in_test::{BuiltInTest, TESTS};
 pub use escape_fn::{EscapeFn, Escaping};

@@ -19,7 +19,7 @@ use std::alloc::{AllocError, Global};
 use std::collections::BTreeMap;
 use std::ops::Range;
 use std::rc::Rc;
-use tera_built_ins::names::{FILTERS, FUNCTIONS, TESTS};
+use tera_built_ins::{FILTERS, FUNCTIONS, TESTS};
 use tera_code::{Callee, Chunk, Target};
 use tera_errors::{Error, Guess, Place, Span, place_of};
 use tera_state::Objects;

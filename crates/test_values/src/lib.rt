@@ -7,6 +7,8 @@ mod arguments;
 #[cfg(test)]
 mod components;
 #[cfg(test)]
+mod constructors;
+#[cfg(test)]
 mod names;
 #[cfg(test)]
 mod numbers;

@@ -50,13 +50,13 @@ pub fn put_json(context: &mut Context, text: &str, floats: Floats) -> TeraResult
 }
 
 /// Puts all of the data over the context, name by name, all of it or nothing.
-pub(crate) fn lay_over(context: &mut Context, data: &Context) -> TeraResult<()>
-    ensures ok { OnOk result (context.new ≡ put_all data.now context.old) }
+pub(crate) fn lay_over(context: &mut Context, members: &Context) -> TeraResult<()>
+    ensures ok { OnOk result (context.new ≡ put_all members.now context.old) }
     ensures err { OnErr result (context.new ≡ context.old) }
     ensures lacks { IfErr result Lacks }
 {
     let mut all = context.try_clone()?;
-    all.put_all(data)?;
+    all.put_all(members)?;
     *context = all;
     Ok(())
 }

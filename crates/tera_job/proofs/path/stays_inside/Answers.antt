@@ -1,0 +1,11 @@
+use Rattle.std.proofs.Common.{rules, tests, ap, not, lit<, ◌≡◌}
+use Rattle.std.proofs.lemmas.Iterator.Search.{any_from_yields_List}
+use Rattle.std.proofs.lemmas.Iterator.Splits.{YieldsList-from_str_split}
+use Rattle.tera_job.specs.Paths.{is_step}
+use Rattle.tera_job.proofs.path.stays_inside.Goals as goal
+
+pub returns : goal.returns
+returns c =
+    ap not (any_from_yields_List is_step _ _ _ c.any.ensures.ran
+    (YieldsList-from_str_split 47 c.args.path.now (lit< tt) c.split.ensures.text c.split.ensures.has_more c.split.ensures.pattern)
+    (λ x b q k. search (rules, tests)))

@@ -1,0 +1,75 @@
+// An engine as settings have it, with the templates of files.
+ghost use Rattle.std.specs.Prelude.{◌≡◌, Ok, Result, Some, None};
+ghost use Rattle.tera.specs.Prelude.{Gives, GivesOneOf, registry_of, pairs_of};
+ghost use Rattle.tera.specs.Delimiters.{delimiters_of};
+ghost use Rattle.tera_job.specs.Engines.{delimiters_given, tags_seen, prepared, AddsTo};
+
+use std::alloc::Global;
+use tera::{CallerObjects, Delimiters, Objects, Tera, TeraResult};
+
+/// What begins and ends the three kinds of tag.
+#[derive(Clone, Copy, Debug)]
+pub struct Tags<'a> {
+    pub block_start: &'a str,
+    pub block_end: &'a str,
+    pub variable_start: &'a str,
+    pub variable_end: &'a str,
+    pub comment_start: &'a str,
+    pub comment_end: &'a str,
+}
+
+/// How templates are read and found, and which of them escape.
+#[derive(Clone, Copy, Debug)]
+pub struct Settings<'a> {
+    /// Templates whose names end with one of these escape.
+    pub suffixes: &'a [&'a str],
+    /// A name that no template has is looked for after each of these.
+    pub prefixes: &'a [&'a str],
+    /// Other delimiters than Tera's own.
+    pub tags: Option<Tags<'a>>,
+}
+
+impl Settings<'_> {
+    /// The delimiters that templates are read by.
+    pub fn delimiters(&self, alloc: Global) -> TeraResult<Delimiters>
+        ensures { Gives delimiters_of result (Ok (delimiters_given self.now)) }
+    {
+        match &self.tags {
+            Some(tags) => tags.delimiters(alloc),
+            None => Delimiters::standard(alloc),
+        }
+    }
+}
+
+impl Tags<'_> {
+    fn delimiters(&self, alloc: Global) -> TeraResult<Delimiters>
+        ensures { Gives delimiters_of result (Ok (tags_seen self.now)) }
+    {
+        Ok(Delimiters {
+            block_start: String::from_str(alloc, self.block_start)?,
+            block_end: String::from_str(alloc, self.block_end)?,
+            variable_start: String::from_str(alloc, self.variable_start)?,
+            variable_end: String::from_str(alloc, self.variable_end)?,
+            comment_start: String::from_str(alloc, self.comment_start)?,
+            comment_end: String::from_str(alloc, self.comment_end)?,
+        })
+    }
+}
+
+/// An engine with these settings and templates, given as names and texts; or why one of them, or all of them together, are
+/// refused.
+pub fn engine_for(
+    alloc: Global,
+    settings: &Settings<'_>,
+    templates: &[(&str, &str)],
+) -> TeraResult<Tera>
+    ensures { GivesOneOf (registry_of ⟦<CallerObjects as Objects>⟧.engine) result
+        (AddsTo (prepared settings.now) (pairs_of templates.now)) }
+{
+    let mut engine = Tera::new(alloc)?;
+    engine.set_delimiters(settings.delimiters(alloc)?)?;
+    engine.set_fallback_prefixes(settings.prefixes)?;
+    engine.autoescape_on(settings.suffixes)?;
+    engine.add_raw_templates(templates)?;
+    Ok(engine)
+}

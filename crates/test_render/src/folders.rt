@@ -1,0 +1,89 @@
+// Folders that are read, and files that are written whole or not at all.
+use crate::failing::FailingFiles;
+use std::cell::Cell;
+use std::fs;
+use std::rc::Rc;
+use std::test::Fail;
+use tera_folders::{lies_in, name_in, read_bytes, read_folder, write_file, write_files};
+
+/// As many calls as one of the functions makes at most.
+const MOST_CALLS: usize = 60;
+
+#[test]
+fn folders_are_read_in_byte_order(rt: HostRuntime) -> Result<(), Fail> {
+    let files = [
+        ("b.html", "2"),
+        ("a/z.html", "1"),
+        ("a.html", "0"),
+        ("c/d/e.txt", "3"),
+        (".hidden/x", "4"),
+    ];
+    assert!(rt; write_files(&rt, "read", files.as_slice()).is_ok());
+    let Ok(found) = read_folder(&rt, "read/") else {
+        assert!(rt; false, "not read");
+        return Ok(());
+    };
+    let mut names = String::new(rt.alloc());
+    for file in &found {
+        names.push_str(file.name.as_str())?;
+        names.push_str(file.text.as_str())?;
+        names.push(' ')?;
+    }
+    assert!(rt;
+        names.as_str() == "a.html0 a/z.html1 b.html2 c/d/e.txt3 ",
+        "{names}"
+    );
+    assert!(rt; read_folder(&rt, "none").is_err());
+    assert!(rt; read_folder(&rt, "read/a.html").is_err());
+    fs::write(&rt, "read/bad", b"a\n\xff".as_slice())?;
+    assert!(rt; read_folder(&rt, "read").is_err());
+    assert!(rt; read_bytes(&rt, "read/bad").is_ok());
+    Ok(())
+}
+
+#[test]
+fn places_are_told_apart(rt: HostRuntime) -> Result<(), Fail> {
+    assert!(rt; write_files(&rt, "place", [("t/a.html", ""), ("tt/b", "")].as_slice()).is_ok());
+    for (path, want) in [
+        ("place/t", true),
+        ("place/t/", true),
+        ("place/t/x/y", true),
+        ("place/tt/../t/x", true),
+        ("place/tt", false),
+        ("place/ttt/x", false),
+        ("place", false),
+        ("new", false),
+    ] {
+        match lies_in(&rt, path, "place/t") {
+            Ok(lies) => assert!(rt; lies == want, "{path}"),
+            Err(_) => assert!(rt; false, "{path}"),
+        }
+    }
+    match name_in(&rt, "place/tt/../t/a.html", "place/t") {
+        Ok(Some(name)) => assert!(rt; name.as_str() == "a.html"),
+        _ => assert!(rt; false, "no name"),
+    }
+    assert!(rt; matches!(name_in(&rt, "place/t/none", "place/t"), Ok(None)));
+    assert!(rt; matches!(name_in(&rt, "place/tt/b", "place/t"), Ok(None)));
+    Ok(())
+}
+
+// Each call fails in turn: then the file is as it was, and nothing lies beside it.
+#[test]
+fn files_are_written_whole_or_not_at_all(rt: HostRuntime) -> Result<(), Fail> {
+    for before in 0..MOST_CALLS {
+        fs::create_dir_all(&rt, "write")?;
+        fs::write(&rt, "write/page", "old")?;
+        let files = FailingFiles {
+            rt: rt.clone()?,
+            before: Rc::new(rt.alloc(), Cell::new(before))?,
+        };
+        let answer = write_file(&files, "write/page", "a new text");
+        let text = fs::read_to_string(&rt, "write/page")?;
+        let want = if answer.is_ok() { "a new text" } else { "old" };
+        assert!(rt; text.as_str() == want, "{before}");
+        assert!(rt; !fs::exists(&rt, "write/page.part~")?, "{before}");
+        assert!(rt; before < MOST_CALLS - 1 || answer.is_ok());
+    }
+    Ok(())
+}

@@ -6,11 +6,15 @@ ghost use Rattle.tera_folders.specs.Names.{joined, slash_between};
 
 use crate::error::FileError;
 use std::alloc::Global;
-use std::fs;
-use std::fs::{Files, ReadDir};
+use std::fs::{Files, OpenFile, ReadDir};
+use std::io::Read;
+use std::{fs, io};
 
 /// So deep a folder may lie: deeper ones come of links that lead in a circle.
 const MOST_FOLDERS: usize = 40;
+
+/// So many bytes at most are made room for before any is read.
+const MOST_ROOM: usize = 1 << 24;
 
 /// A file of a folder: its path from there, with `/` between the parts, and its text.
 #[derive(Debug, Drop)]
@@ -38,10 +42,19 @@ pub fn read_folder<R: Files + AllocGlobal + Clone + Drop>(
 pub fn read_bytes<R: Files + AllocGlobal>(rt: &R, path: &str) -> Result<Vec<u8>, FileError>
     ensures err { IfErr result (IsAt path.now) }
 {
-    match fs::read(rt, path) {
+    match read_sized(rt, path) {
         Ok(bytes) => Ok(bytes),
         Err(error) => Err(FileError::system(rt.alloc(), path, error)),
     }
+}
+
+// `fs::read` with room for so many bytes as the file says it has, and for one more, which tells that there are no others.
+fn read_sized<R: Files + AllocGlobal>(rt: &R, path: &str) -> io::Result<Vec<u8>> {
+    let mut file = fs::File::open(rt, path)?;
+    let size = usize::try_from(file.metadata()?.len()).unwrap_or(0);
+    let mut bytes = Vec::with_capacity(rt.alloc(), size.min(MOST_ROOM).saturating_add(1))?;
+    file.read_to_end(&mut bytes)?;
+    Ok(bytes)
 }
 
 fn read_text<R: Files + AllocGlobal>(

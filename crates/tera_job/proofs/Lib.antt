@@ -1,7 +1,9 @@
 pub mod Laying
 pub mod Stems
 pub mod Places
-pub mod Pages
+pub mod Making
 pub mod Unread
+pub mod Previewing
+pub mod Furnishing
 pub mod Unsafe
 pub mod OwnMarkup

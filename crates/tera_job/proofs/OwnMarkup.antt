@@ -1,12 +1,12 @@
 -- All markup of a page that escapes is text of templates.
-use Rattle.std.proofs.Common.{◌≡◌, ℕ, Bool, true, false, cond, ◌&&◌, IsTrue, List, [], ◌∷◌, ◌++◌, flat_map, Option, Some, None, Result, Ok, Err, refl, sym, ap, ◌∙◌, subst, append-nil}
+use Rattle.std.proofs.Common.{◌≡◌, Bool, true, false, cond, IsTrue, List, [], ◌++◌, flat_map, Option, Some, None, Result, Ok, Err, refl, sym, ap, ◌∙◌, subst, append-nil}
 use Rattle.tera.specs.Site.{Name, Text}
 use Rattle.tera.specs.Fault.{Fault, message}
 use Rattle.tera.specs.Val.{Val}
 use Rattle.tera.specs.Named.{Named, put_all}
 use Rattle.tera.specs.Lent.{texts_of}
 use Rattle.tera.specs.Engine.{Engine, standard_engine}
-use Rattle.tera.specs.Delimiters.{Delims, accepted as usable}
+use Rattle.tera.specs.Delimiters.{accepted as usable}
 use Rattle.tera.specs.MeaningRegistry.{Template, Registry, new_registry}
 use Rattle.tera.specs.Accepted.{fault}
 use Rattle.tera.specs.Adding.{unless_faulty, added}

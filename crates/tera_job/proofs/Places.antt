@@ -1,15 +1,17 @@
 -- Paths, one after another: all have places of their own, or one of them has none.
-use Rattle.std.proofs.Common.{◌≡◌, ℕ, ◌+◌, ◌<◌, Bool, true, false, cond, not, Option, Some, ◌&&◌, ◌||◌, List, [], ◌∷◌, ◌++◌, length, take, drop, map, refl, sym, ap, ◌∙◌, subst, arith}
+use Rattle.std.proofs.Common.{◌≡◌, ℕ, ◌+◌, ◌<◌, Bool, true, false, cond, not, Option, Some, ◌&&◌, ◌||◌, List, [], ◌∷◌, ◌++◌, length, take, drop, map, refl, sym, ap, ◌∙◌, arith}
 use Rattle.std.specs.Cmp.{both_ways}
-use Rattle.std.specs.List.{list_all, list_any}
+use Rattle.std.specs.List.{list_all}
 use Rattle.std.specs.Str.{bytes_eq}
 use Rattle.std.proofs.lemmas.List.{take_more, drop_more, take-append-drop, get_or-map, length-map}
 use Rattle.std.proofs.lemmas.List.Folds.{list_any-append, list_all-append}
 use Rattle.std.proofs.lemmas.Slice.Eq.{bytes_eq-Decides}
 use Rattle.std.proofs.Math.ListN.{get_or}
 use Rattle.std.specs.Option.{is_some}
-use Rattle.std.specs.Prelude.{String, string_bytes}
+use Rattle.std.specs.Prelude.{String, string_bytes, None, IfSome}
 use Rattle.tera.specs.Site.{Text}
+use Rattle.tera.specs.Fault.{message}
+use Rattle.tera.specs.Answer.{SeenError, Tells}
 use Rattle.tera.specs.Named.{is_one_of}
 use Rattle.tera_job.specs.Paths.{output_path, stays_inside}
 use Rattle.tera_job.specs.Pages.{are_distinct, have_places}
@@ -73,6 +75,7 @@ met_again (q ∷ qs) p ps k = by (bytes_eq p q) refl k (met_again qs p ps)
     or_true : (b : Bool) → b || true ≡ true
     or_true true = refl
     or_true false = refl
+
     by : (b : Bool) → bytes_eq p q ≡ b → b || is_one_of qs p ≡ true → (is_one_of qs p ≡ true → are_distinct (qs ++ p ∷ ps) ≡ false) → not (is_one_of (qs ++ p ∷ ps) q) && are_distinct (qs ++ p ∷ ps) ≡ false
     by true e k further =
         left_false (not (is_one_of (qs ++ p ∷ ps) q)) (are_distinct (qs ++ p ∷ ps))
@@ -122,3 +125,8 @@ paths_within names i lt = omega (arith, length-map (map string_bytes names) outp
 pub is_some_update : {X : Type 0} (b : Bool) (x : X) (o : Option X) → is_some (cond b (Some x) o) ≡ (b || is_some o)
 is_some_update true x o = refl
 is_some_update false x o = refl
+
+-- an error of a message, where something else holds
+pub told : (e : SeenError) (P : Type 0) → Tells e message → P → IfSome e (λ fault. (fault ≡ message) × P)
+told None P h p = tt
+told (Some fault) P h p = (h, p)

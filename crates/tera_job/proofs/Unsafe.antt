@@ -1,17 +1,16 @@
 -- No text that data gives is marked safe.
-use Rattle.std.proofs.Common.{◌≡◌, inl, inr, Bool, true, false, cond, not, nat_eq, List, [], ◌∷◌, ◌++◌, length, map, filter, flat_map, Option, Some, None, unwrap_or, Result, Ok, Err, refl, sym, ap, ◌∙◌, subst, Less, Ordering, Equal, Greater}
+use Rattle.std.proofs.Common.{◌≡◌, inl, inr, Bool, true, false, cond, not, nat_eq, List, [], ◌∷◌, ◌++◌, length, flat_map, Option, Some, None, unwrap_or, Result, Ok, Err, refl, sym, subst, Less, Ordering, Equal, Greater}
 use Rattle.std.specs.Ordering.{match_ordering}
 use Rattle.std.specs.Str.{bytes_eq}
-use Rattle.std.specs.Option.{ok_or}
 use Rattle.std.specs.Prelude.{ℤ}
 use Rattle.csv.specs.Reading.{default_config, records, strip_bom}
-use Rattle.json.specs.Json.{Json, null, boolean, number, string, array as list, object, Items, no_items, item, Members, no_members, member, document}
+use Rattle.json.specs.Json.{Json, null, boolean, number, string, array as list, object, Items, no_items, item, Members, no_members, member}
 use Rattle.toml.specs.Data as toml
 use Rattle.toml.specs.Data.{Data}
 use Rattle.toml_datetime.specs.Text.{datetime_text}
 use Rattle.tera.specs.Site.{Name, Text}
 use Rattle.tera.specs.Fault.{Fault, message}
-use Rattle.tera.specs.Val.{Val, Vals, vals, entries, text, int, bool, array as val_array, map as val_map}
+use Rattle.tera.specs.Val.{Val, vals, entries, text, int, bool, array as val_array, map as val_map}
 use Rattle.tera.specs.Named.{Named, at_name, name_cmp, put, put_all, is_one_of, without_names, text_keys}
 use Rattle.tera.specs.Sources.{safe_texts, items_safe_texts, entries_safe_texts}
 use Rattle.tera.specs.Renderings.{values_named}
@@ -21,7 +20,7 @@ use Rattle.tera_data.specs.Numbers.{integer_of, of_other, of_number}
 use Rattle.tera_data.specs.Values.{then, once, of_json, of_items, of_members, read, value_in, Follows}
 use Rattle.tera_data.specs.Contexts.{named, of_object, context_in}
 use Rattle.tera_data.specs.Csv.{under, of_record, of_records, of_rows, csv_in}
-use Rattle.tera_data.specs.Toml.{OfToml, OfItems, OfMembers, TomlIn, TomlContextIn, read_toml}
+use Rattle.tera_data.specs.Toml.{OfToml, OfItems, OfMembers, OfTable, TomlIn, TomlContextIn, read_toml}
 use Rattle.tera_job.specs.Data.{MembersIn, ValueIn, Lays, LaysAll}
 use Rattle.tera_job.specs.Laws.{DataIsUnsafe}
 use Rattle.tera_job.specs.declared.datum.DataForm.{DataForm}
@@ -195,29 +194,29 @@ mutual
   toml-unsafe f (toml.boolean b) = means IsUnsafe (Ok (bool b)) refl
   toml-unsafe f (toml.datetime when) = means IsUnsafe (Ok (text (datetime_text when) false)) refl
   toml-unsafe f (toml.array ds) =
-      follows_one AllUnsafe IsUnsafe (OfItems f ds) _ (toml_items-unsafe f ds) (λ vs h. means IsUnsafe (Ok (val_array (vals vs))) (items-unsafe vs h))
+      follows_one AllUnsafe IsUnsafe (OfItems f ds) (λ vs a. a ≡ Ok (val_array (vals vs))) (toml_items-unsafe f ds) (λ vs h. means IsUnsafe (Ok (val_array (vals vs))) (items-unsafe vs h))
   toml-unsafe f (toml.table ms) =
-      follows_one EachUnsafe IsUnsafe (OfMembers f ms) _ (toml_members-unsafe f ms) (λ vs h. means IsUnsafe (Ok (val_map (entries (text_keys (once vs))))) (entries-unsafe (once vs) (once-unsafe vs h)))
+      follows_one EachUnsafe IsUnsafe (OfMembers f ms) (λ vs a. a ≡ Ok (val_map (entries (text_keys (once vs))))) (toml_members-unsafe f ms) (λ vs h. means IsUnsafe (Ok (val_map (entries (text_keys (once vs))))) (entries-unsafe (once vs) (once-unsafe vs h)))
 
   toml_items-unsafe : (f : Floats) (ds : toml.Items) → Means AllUnsafe (OfItems f ds)
   toml_items-unsafe f toml.no_items = means AllUnsafe (Ok []) tt
   toml_items-unsafe f (toml.item d ds) =
-      follows_one IsUnsafe AllUnsafe (OfToml f d) _ (toml-unsafe f d)
-      (λ v h. follows_one AllUnsafe AllUnsafe (OfItems f ds) _ (toml_items-unsafe f ds) (λ vs k. means AllUnsafe (Ok (v ∷ vs)) (h, k)))
+      follows_one IsUnsafe AllUnsafe (OfToml f d) (λ v. Follows (OfItems f ds) (λ vs a. a ≡ Ok (v ∷ vs))) (toml-unsafe f d)
+      (λ v h. follows_one AllUnsafe AllUnsafe (OfItems f ds) (λ vs a. a ≡ Ok (v ∷ vs)) (toml_items-unsafe f ds) (λ vs k. means AllUnsafe (Ok (v ∷ vs)) (h, k)))
 
   toml_members-unsafe : (f : Floats) (ms : toml.Members) → Means EachUnsafe (OfMembers f ms)
   toml_members-unsafe f toml.no_members = means EachUnsafe (Ok []) tt
   toml_members-unsafe f (toml.member n d ms) =
-      follows_one IsUnsafe EachUnsafe (OfToml f d) _ (toml-unsafe f d)
-      (λ v h. follows_one EachUnsafe EachUnsafe (OfMembers f ms) _ (toml_members-unsafe f ms) (λ vs k. means EachUnsafe (Ok ((n, v) ∷ vs)) (h, k)))
+      follows_one IsUnsafe EachUnsafe (OfToml f d) (λ v. Follows (OfMembers f ms) (λ vs a. a ≡ Ok ((n, v) ∷ vs))) (toml-unsafe f d)
+      (λ v h. follows_one EachUnsafe EachUnsafe (OfMembers f ms) (λ vs a. a ≡ Ok ((n, v) ∷ vs)) (toml_members-unsafe f ms) (λ vs k. means EachUnsafe (Ok ((n, v) ∷ vs)) (h, k)))
 
 toml_value-unsafe : (f : Floats) (t : Text) → Means IsUnsafe (TomlIn f t)
-toml_value-unsafe f t = follows_one (λ ms. Unit {0}) IsUnsafe (λ ms. ms ≡ read_toml t) _ (λ ms there. tt) (λ ms u. toml-unsafe f (toml.table ms))
+toml_value-unsafe f t = follows_one (λ ms. Unit {0}) IsUnsafe (λ ms. ms ≡ read_toml t) (λ ms. OfToml f (toml.table ms)) (λ ms there. tt) (λ ms u. toml-unsafe f (toml.table ms))
 
 toml_context-unsafe : (f : Floats) (t : Text) → Means EachUnsafe (TomlContextIn f t)
 toml_context-unsafe f t =
-    follows_one (λ ms. Unit {0}) EachUnsafe (λ ms. ms ≡ read_toml t) _ (λ ms there. tt)
-    (λ ms u. follows_one EachUnsafe EachUnsafe (OfMembers f ms) _ (toml_members-unsafe f ms) (λ vs h. means EachUnsafe (Ok (put_all vs [])) (put_all-unsafe vs [] h tt)))
+    follows_one (λ ms. Unit {0}) EachUnsafe (λ ms. ms ≡ read_toml t) (OfTable f) (λ ms there. tt)
+    (λ ms u. follows_one EachUnsafe EachUnsafe (OfMembers f ms) (λ vs a. a ≡ Ok (put_all vs [])) (toml_members-unsafe f ms) (λ vs h. means EachUnsafe (Ok (put_all vs [])) (put_all-unsafe vs [] h tt)))
 
 -- what data gives
 members-unsafe : (f : Floats) (form : DataForm) (t : Text) → Means EachUnsafe (MembersIn f form t)
@@ -232,14 +231,14 @@ value-unsafe f written.Csv t = means IsUnsafe (csv_in t) (rows-unsafe (records d
 
 lays-unsafe : (f : Floats) (d : Datum) (there : Named Val) → EachUnsafe there → Means EachUnsafe (Lays f d there)
 lays-unsafe f (datum.Members form t) there h =
-    follows_one EachUnsafe EachUnsafe (MembersIn f form t.now) _ (members-unsafe f form t.now) (λ new k. means EachUnsafe (Ok (put_all new there)) (put_all-unsafe new there k h))
+    follows_one EachUnsafe EachUnsafe (MembersIn f form t.now) (λ new r. r ≡ Ok (put_all new there)) (members-unsafe f form t.now) (λ new k. means EachUnsafe (Ok (put_all new there)) (put_all-unsafe new there k h))
 lays-unsafe f (datum.Whole name form t) there h =
-    follows_one IsUnsafe EachUnsafe (ValueIn f form t.now) _ (value-unsafe f form t.now) (λ v k. means EachUnsafe (Ok (put name.now v there)) (put-unsafe name.now v there k h))
+    follows_one IsUnsafe EachUnsafe (ValueIn f form t.now) (λ v r. r ≡ Ok (put name.now v there)) (value-unsafe f form t.now) (λ v k. means EachUnsafe (Ok (put name.now v there)) (put-unsafe name.now v there k h))
 lays-unsafe f (datum.Words name t) there h = means EachUnsafe (Ok (put name.now (text t.now false) there)) (put-unsafe name.now (text t.now false) there refl h)
 
 all-unsafe : (f : Floats) (there : Named Val) (ds : List Datum) → EachUnsafe there → Means EachUnsafe (LaysAll f there ds)
 all-unsafe f there [] h = means EachUnsafe (Ok there) h
-all-unsafe f there (d ∷ ds) h = follows_one EachUnsafe EachUnsafe (Lays f d there) _ (lays-unsafe f d there h) (λ next k. all-unsafe f next ds k)
+all-unsafe f there (d ∷ ds) h = follows_one EachUnsafe EachUnsafe (Lays f d there) (λ next. LaysAll f next ds) (lays-unsafe f d there h) (λ next k. all-unsafe f next ds k)
 
 pub data_is_unsafe : DataIsUnsafe
 data_is_unsafe f ds context is = values-unsafe context (all-unsafe f [] ds tt context is)

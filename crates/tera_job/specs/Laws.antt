@@ -1,5 +1,5 @@
 -- What holds of what a job makes.
-use Rattle.std.specs.Prelude.{◌≡◌, IsTrue, false, List, [], flat_map, Some, Result, Ok}
+use Rattle.std.specs.Prelude.{◌≡◌, IsTrue, false, List, [], flat_map, Some, Ok}
 use Rattle.tera.specs.Site.{Name, Text}
 use Rattle.tera.specs.Val.{Val}
 use Rattle.tera.specs.Named.{Named}

@@ -1,5 +1,5 @@
 -- What a job makes, or why it makes nothing.
-use Rattle.std.specs.Prelude.{◌≡◌, ◌≢◌, List, [], map, take, Some, None, Ok, Err, string_bytes}
+use Rattle.std.specs.Prelude.{◌≡◌, ◌≢◌, [], map, take, Some, None, Ok, Err, string_bytes}
 use Rattle.tera.specs.Fault.{Fault}
 use Rattle.tera.specs.Answer.{SeenError, SaysOneOf}
 use Rattle.tera.specs.Val.{Val}
@@ -14,7 +14,6 @@ use Rattle.tera_job.specs.Engines.{prepared, delimiters_given, AddsTo}
 use Rattle.tera_job.specs.Unread.{AreUnread}
 use Rattle.tera_job.specs.Pages.{pages_seen, ArePages}
 use Rattle.tera_job.specs.Previews.{ArePreviews}
-use Rattle.tera_job.specs.declared.datum.Unreadable.{Unreadable}
 use Rattle.tera_job.specs.declared.job.Job.{Job}
 use Rattle.tera_job.specs.declared.job.Task.{Task}
 use Rattle.tera_job.specs.declared.job.Task.TheVariants as task

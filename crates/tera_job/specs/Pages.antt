@@ -1,5 +1,5 @@
 -- What pages are.
-use Rattle.std.specs.Prelude.{◌≡◌, ◌⊎◌, Bool, true, false, not, ◌&&◌, IsTrue, List, [], ◌∷◌, ◌++◌, map, filter, Result, Ok, Err, string_bytes}
+use Rattle.std.specs.Prelude.{◌≡◌, ◌⊎◌, Bool, true, false, not, ◌&&◌, List, [], ◌∷◌, ◌++◌, map, filter, Result, Ok, Err, string_bytes}
 use Rattle.std.specs.List.{list_all}
 use Rattle.tera.specs.Site.{Name, Text}
 use Rattle.tera.specs.Fault.{Fault, message}

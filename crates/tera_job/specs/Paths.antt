@@ -1,5 +1,5 @@
 -- Where the page of a template goes.
-use Rattle.std.specs.Prelude.{ℕ, Bool, not, cond, ◌||◌, nat_eq, ◌-◌, List, [], ◌∷◌, take, length, codes, Option, Some, None, unwrap_or}
+use Rattle.std.specs.Prelude.{Bool, not, cond, ◌||◌, nat_eq, ◌-◌, List, [], ◌∷◌, take, length, codes, Option, Some, None, unwrap_or}
 use Rattle.std.specs.List.{list_any, slice_split, starts_with, ends_with}
 use Rattle.std.specs.Str.{byte, bytes_eq}
 use Rattle.tera.specs.Site.{Name, Text}

@@ -4,6 +4,7 @@ ghost use Rattle.tera.specs.Prelude.{GivesOneOf, registry_of};
 ghost use Rattle.tera.specs.Resolve.{resolve};
 ghost use Rattle.tera.specs.Variables.{AnswersVariables};
 ghost use Rattle.tera_job.specs.declared.job.JobError.TheVariants.{Fault, Unreadable};
+ghost use Rattle.tera_job.specs.declared.job.Task.TheVariants.{Check};
 ghost use Rattle.tera_job.specs.Made.{FailsBy, Furnished, Makes, Refuses};
 
 use crate::datum::{Datum, Unreadable, context_of};
@@ -98,13 +99,24 @@ pub fn make<W: Watch>(alloc: Global, job: &Job<'_>, watch: &mut W) -> Result<Mad
 {
     let context = context_of(alloc, job.given, job.floats)?;
     if let Task::Check = job.task {
-        let errors = syntax_errors(alloc, &job.settings, job.templates)?;
-        if !errors.is_empty() {
-            return Err(JobError::Syntax(errors));
-        }
+        check_texts(alloc, job)?;
     }
     let engine = engine_for(alloc, &job.settings, job.templates)?;
-    Ok(do_task(alloc, &engine, &context, job.task, watch)?)
+    match do_task(alloc, &engine, &context, job.task, watch) {
+        Ok(made) => Ok(made),
+        Err(error) => Err(JobError::Fault(error)),
+    }
+}
+
+// Whether each text spells a tree.
+fn check_texts(alloc: Global, job: &Job<'_>) -> Result<(), JobError>
+    ensures { IfErr result (λ e. job.now.task ≡ Check → Refuses job.now e) }
+{
+    match syntax_errors(alloc, &job.settings, job.templates) {
+        Ok(errors) if errors.is_empty() => Ok(()),
+        Ok(errors) => Err(JobError::Syntax(errors)),
+        Err(error) => Err(JobError::Fault(error)),
+    }
 }
 
 fn do_task<O: Objects, W: Watch>(

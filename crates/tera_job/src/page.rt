@@ -78,7 +78,8 @@ fn make_page<O: Objects>(
     ensures { GivesOneOf page_seen result
         (IsPage (registry_of O.engine engine.now) context.now name.now) }
 {
-    let text = engine.render(name, context)?;
+    let mut text = engine.render(name, context)?;
+    text.shrink_to_fit();
     let path = String::from_str(alloc, output_path(name))?;
     Ok(Page { path, text })
 }

@@ -43,12 +43,12 @@ fn previews_of<O: Objects>(
 {
     let mut all = Vec::with_capacity(alloc, names.len())?;
     for name in names {
-        all.push(preview(alloc, engine, context, name.as_str(), autoescape)?)?;
+        all.push(make_preview(alloc, engine, context, name.as_str(), autoescape)?)?;
     }
     Ok(all)
 }
 
-fn preview<O: Objects>(
+fn make_preview<O: Objects>(
     alloc: Global,
     engine: &TeraOver<O>,
     context: &Context,

@@ -1,7 +1,8 @@
 // All texts that spell no tree.
-ghost use Rattle.std.specs.Prelude.{IfOk, IsTrue};
+ghost use Rattle.std.specs.Prelude.{IfErr, IfOk, IsTrue};
 ghost use Rattle.std.specs.Option.{MatchOption};
-ghost use Rattle.tera.specs.Delimiters.{accepted, delimiters_of};
+ghost use Rattle.tera.specs.Answer.{Lacks, Says};
+ghost use Rattle.tera.specs.Delimiters.{accepted, delimiters_of, validated};
 ghost use Rattle.tera.specs.Prelude.{pairs_of};
 ghost use Rattle.tera_job.specs.Engines.{delimiters_given};
 ghost use Rattle.tera_job.specs.Unread.{AreUnread, IsRead, IsUnread};
@@ -34,8 +35,9 @@ pub fn syntax_errors(
     settings: &Settings<'_>,
     templates: &[(&str, &str)],
 ) -> TeraResult<Vec<Error>>
-    ensures { IfOk result (λ es.
+    ensures ok { IfOk result (λ es.
         AreUnread (delimiters_given settings.now) (pairs_of templates.now) es.items) }
+    ensures err { IfErr result (λ e. Says e (validated (delimiters_given settings.now))) }
 {
     let delimiters = settings.delimiters(alloc)?;
     delimiters.validate(alloc)?;
@@ -48,8 +50,9 @@ fn errors_of(
     templates: &[(&str, &str)],
 ) -> TeraResult<Vec<Error>>
     requires { IsTrue (accepted (delimiters_of delimiters.now)) }
-    ensures { IfOk result (λ es.
+    ensures ok { IfOk result (λ es.
         AreUnread (delimiters_of delimiters.now) (pairs_of templates.now) es.items) }
+    ensures lacks { IfErr result Lacks }
 {
     let mut errors = Vec::new(alloc);
     for template in templates {
@@ -67,9 +70,10 @@ fn error_of(
     text: &str,
 ) -> TeraResult<Option<Error>>
     requires { IsTrue (accepted (delimiters_of delimiters.now)) }
-    ensures { let d = delimiters_of delimiters.now in
+    ensures ok { let d = delimiters_of delimiters.now in
         IfOk result (λ found. MatchOption found (IsRead d (name.now, text.now))
         (IsUnread d (name.now, text.now))) }
+    ensures lacks { IfErr result Lacks }
 {
     let Err(error) = parse(alloc, name, text, delimiters) else {
         return Ok(None);

@@ -20,7 +20,7 @@ answer_of_last c =
     let h = strip_text c.args.folder.now c.args.path.now _ c.strip_prefix.ensures.cases in
     let e : c.args.path.now ≡ c.args.folder.now ++ c.in_ok-rest.rest.now = search (rules, h) in
     let s : ends_with nat_eq c.args.folder.now (codes "/") ≡ false =
-        sym (ends_text _ (codes "/") c.args.folder.now c.ends_with.ensures.cases) ∙ c.if-ends_with.false in
+    sym (ends_text _ (codes "/") c.args.folder.now c.ends_with.ensures.cases) ∙ c.if-ends_with.false in
     by_next_slash _ _ _ _ other e s (strip_text (codes "/") c.in_ok-rest.rest.now _ c.strip_prefix-2.ensures.cases)
 
 -- src/place.rt:39:1

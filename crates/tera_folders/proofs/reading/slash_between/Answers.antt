@@ -9,5 +9,5 @@ returns-else-ends_with c =
     let a : (length c.args.folder.now == 0) ≡ false = search rules in
     let b : (length c.args.name.now == 0) ≡ false = search rules in
     let s : ends_with nat_eq c.args.folder.now (codes "/") ≡ false =
-        sym (ends_text _ (codes "/") c.args.folder.now c.ends_with.ensures.cases) ∙ c.if-ends_with.false in
+    sym (ends_text _ (codes "/") c.args.folder.now c.ends_with.ensures.cases) ∙ c.if-ends_with.false in
     sym (λ i. if a i || b i || s i then [] else codes "/")

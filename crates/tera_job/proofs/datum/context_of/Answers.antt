@@ -1,4 +1,4 @@
-use Rattle.std.proofs.Common.{◌≡◌, ◌+◌, ap, sym, take, subst}
+use Rattle.std.proofs.Common.{◌+◌, ap, sym, take, subst}
 use Rattle.tera_job.specs.Data.{AreReadable}
 use Rattle.tera_job.proofs.Laying.{laid_more, lays_next, lays_error}
 use Rattle.tera_job.proofs.datum.context_of.Goals as goal

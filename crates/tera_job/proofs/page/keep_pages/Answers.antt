@@ -1,8 +1,8 @@
-use Rattle.std.proofs.Common.{rules, ◌≡◌, map, filter, ap, ◌∙◌}
+use Rattle.std.proofs.Common.{rules, map, ap, ◌∙◌}
 use Rattle.std.specs.Prelude.{string_bytes}
 use Rattle.std.proofs.lemmas.List.Elements.{filter_from_retain}
 use Rattle.tera_job.specs.Paths.{is_page}
-use Rattle.tera_job.proofs.Pages.{filter_bytes}
+use Rattle.tera_job.proofs.Making.{filter_bytes}
 use Rattle.tera_job.proofs.page.keep_pages.Goals as goal
 
 pub returns : goal.returns

@@ -5,7 +5,7 @@ use Rattle.std.specs.Prelude.{string_bytes}
 use Rattle.tera.specs.Site.{Name}
 use Rattle.tera.specs.Registry.{registry_of}
 use Rattle.tera_job.specs.Pages.{pages_seen, page_seen, AreMade}
-use Rattle.tera_job.proofs.Pages.{error_at, made_at, made_all, name_at}
+use Rattle.tera_job.proofs.Making.{error_at, made_at, name_at}
 use Rattle.tera_job.proofs.page.make_pages.Goals as goal
 
 pub returns-in_err-make_page : goal.returns-in_err-make_page
@@ -31,5 +31,6 @@ loop-name-preserved g c =
     let at : get_or ns i [] ≡ c.as_str.result.now = name_at names i name c.loop-name-test.true there ∙ sym c.as_str.ensures.value in
     let within : i < length ns = omega (arith, length-map names string_bytes) in
     let more : pages_seen (c.loop-name.pages.items ++ page ∷ []) ≡ pages_seen c.loop-name.pages.items ++ page_seen page ∷ [] = map-append page_seen c.loop-name.pages.items (page ∷ []) in
-    subst (λ ps. AreMade (registry_of g.O.Objects.engine c.args.engine.now) c.args.context.now (take (i + 1) ns) ps) (sym (ap pages_seen c.in_ok-push.ensures.items ∙ more))
+    let pushed : pages_seen c.push.new.self.items ≡ pages_seen (c.loop-name.pages.items ++ page ∷ []) = ap pages_seen c.in_ok-push.ensures.items in
+    subst (λ ps. AreMade (registry_of g.O.Objects.engine c.args.engine.now) c.args.context.now (take (i + 1) ns) ps) (sym (pushed ∙ more))
     (made_at (registry_of g.O.Objects.engine c.args.engine.now) c.args.context.now ns i c.as_str.result.now (pages_seen c.loop-name.pages.items) (page_seen page) within at c.loop-name.invariant c.in_ok-make_page.ensures)

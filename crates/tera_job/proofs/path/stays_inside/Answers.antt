@@ -1,4 +1,4 @@
-use Rattle.std.proofs.Common.{rules, tests, ap, not, lit<, ◌≡◌}
+use Rattle.std.proofs.Common.{rules, tests, ap, not, lit<}
 use Rattle.std.proofs.lemmas.Iterator.Search.{any_from_yields_List}
 use Rattle.std.proofs.lemmas.Iterator.Splits.{YieldsList-from_str_split}
 use Rattle.tera_job.specs.Paths.{is_step}

@@ -1,9 +1,9 @@
 -- Pages, one after another.
-use Rattle.std.proofs.Common.{◌≡◌, Bool, true, false, cond, filter, ℕ, ◌+◌, ◌<◌, ◌≤◌, List, [], ◌∷◌, ◌++◌, length, take, drop, map, Result, Ok, Err, refl, sym, ap, ◌∙◌, subst}
+use Rattle.std.proofs.Common.{◌≡◌, Bool, true, false, cond, filter, ℕ, ◌+◌, ◌<◌, ◌≤◌, List, [], ◌∷◌, ◌++◌, length, take, drop, map, Ok, Err, refl, sym, ap, ◌∙◌, subst}
 use Rattle.std.proofs.Math.ListN.{get_or}
 use Rattle.std.proofs.lemmas.List.{take_all, take_more, drop_more, take-append-drop, get_or-map}
-use Rattle.std.specs.Prelude.{String, string_bytes, Option, Some, None}
-use Rattle.tera.specs.Site.{Name, Text}
+use Rattle.std.specs.Prelude.{String, string_bytes, Some, None}
+use Rattle.tera.specs.Site.{Name}
 use Rattle.tera.specs.Fault.{Fault}
 use Rattle.tera.specs.Answer.{SeenError, SaysOneOf}
 use Rattle.tera.specs.Val.{Val}

@@ -28,7 +28,7 @@ abbrev IfThere : Result Registry Fault → Type 0
 IfThere (Ok r) = HasNothingOwn r
 IfThere (Err fault) = Unit {0}
 
-prepared-plain : (s : Settings) → IfThere (prepared s)
+prepared-plain : (s : Settings) → IfThere (prepared s new_registry)
 prepared-plain s = by (usable (delimiters_given s))
   where
     by : (b : Bool) → IfThere (then (cond b (Ok (record new_registry { delimiters = delimiters_given s })) (Err message))
@@ -52,7 +52,7 @@ adds-plain (Err f) templates r h adds = absurd (cc)
 
 pub markup_is_none_of_the_data : MarkupIsNoneOfTheData
 markup_is_none_of_the_data s templates r floats ds context name t page adds gives found on none_applies means =
-    let own = adds-plain (prepared s) templates r (prepared-plain s) adds in
+    let own = adds-plain (prepared s new_registry) templates r (prepared-plain s) adds in
     let unsafe = data_is_unsafe floats ds context gives in
     markup_is_the_templates r (of_template name context) page
     (ap (λ (engine : Engine). engine.escape) own.0)

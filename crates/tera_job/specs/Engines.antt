@@ -4,7 +4,7 @@ use Rattle.tera.specs.Site.{Name, Text}
 use Rattle.tera.specs.Fault.{Fault}
 use Rattle.tera.specs.Lent.{texts_of}
 use Rattle.tera.specs.Delimiters.{Delims, standard}
-use Rattle.tera.specs.MeaningRegistry.{Registry, new_registry}
+use Rattle.tera.specs.MeaningRegistry.{Registry}
 use Rattle.tera.specs.Batch.{Adds}
 use Rattle.tera.specs.Configuring.{with_delimiters, with_prefixes, with_suffixes}
 use Rattle.tera_data.specs.Values.{then}
@@ -29,10 +29,10 @@ delimiters_or (Some t) = tags_seen t
 abbrev pub delimiters_given : Settings → Delims
 delimiters_given s = delimiters_or s.tags
 
--- a new engine with these settings, before a template is there
-abbrev pub prepared : Settings → Result Registry Fault
-prepared s =
-    then (with_delimiters (delimiters_given s) new_registry)
+-- an engine with these settings, before a template is there
+abbrev pub prepared : Settings → Registry → Result Registry Fault
+prepared s r =
+    then (with_delimiters (delimiters_given s) r)
     (λ r. then (with_prefixes (texts_of s.prefixes.now) r)
     (λ r. Ok (with_suffixes (texts_of s.suffixes.now) r)))
 

@@ -3,7 +3,7 @@ use Rattle.std.specs.Prelude.{◌≡◌, IsTrue, false, List, [], flat_map, Some
 use Rattle.tera.specs.Site.{Name, Text}
 use Rattle.tera.specs.Val.{Val}
 use Rattle.tera.specs.Named.{Named}
-use Rattle.tera.specs.MeaningRegistry.{Entry, Registry}
+use Rattle.tera.specs.MeaningRegistry.{Entry, Registry, new_registry}
 use Rattle.tera.specs.Resolve.{resolve}
 use Rattle.tera.specs.Rendering.{ByName, autoescapes}
 use Rattle.tera.specs.Sources.{safe_texts, applies_safe}
@@ -29,7 +29,7 @@ MarkupIsNoneOfTheData =
     (s : Settings) (templates : List (Name × Text)) (r : Registry)
     (floats : Floats) (ds : List Datum) (context : Named Val)
     (name : Name) (t : Entry) (page : Text)
-    → AddsTo (prepared s) templates (Ok r) → IsContextOf floats ds (Ok context)
+    → AddsTo (prepared s new_registry) templates (Ok r) → IsContextOf floats ds (Ok context)
     → resolve r name ≡ Some t → IsTrue (autoescapes r t.0)
     → applies_safe (sources r (of_template name context)) ≡ false
     → ByName r name context (Ok page)

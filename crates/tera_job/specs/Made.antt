@@ -5,7 +5,7 @@ use Rattle.tera.specs.Answer.{SeenError, SaysOneOf}
 use Rattle.tera.specs.Val.{Val}
 use Rattle.tera.specs.Named.{Named}
 use Rattle.tera.specs.Batch.{pairs_of}
-use Rattle.tera.specs.MeaningRegistry.{Registry}
+use Rattle.tera.specs.MeaningRegistry.{Registry, new_registry}
 use Rattle.tera.specs.Resolve.{resolve}
 use Rattle.tera.specs.Variables.{AnswersVariables}
 use Rattle.tera.specs.Rendering.{ByName, BlockByName}
@@ -26,7 +26,7 @@ use Rattle.tera_job.specs.declared.job.JobError.TheVariants as error
 pub record Furnished (job : Job) : Type 0 where
   pub registry : Registry
   pub context : Named Val
-  pub adds : AddsTo (prepared job.settings) (pairs_of job.templates.now) (Ok registry)
+  pub adds : AddsTo (prepared job.settings new_registry) (pairs_of job.templates.now) (Ok registry)
   pub gives : IsContextOf job.floats job.given.now (Ok context)
 
 -- what a task makes: exactly what the engine means by it
@@ -58,7 +58,7 @@ FailsBy r context t (Some fault) = Fails r context t fault
 
 -- a fault of the templates together, or of what is made of them
 pub data IsFault (job : Job) (fault : Fault) : Type 0 where
-  of_templates : AddsTo (prepared job.settings) (pairs_of job.templates.now) (Err fault)
+  of_templates : AddsTo (prepared job.settings new_registry) (pairs_of job.templates.now) (Err fault)
       → IsFault job fault
   of_task : (f : Furnished job) → Fails f.registry f.context job.task fault → IsFault job fault
 

@@ -1,11 +1,11 @@
-// An engine as settings have it, with the templates of files.
+// An engine set up, with the templates of files.
 ghost use Rattle.std.specs.Prelude.{◌≡◌, Ok, Result, Some, None};
 ghost use Rattle.tera.specs.Prelude.{Gives, GivesOneOf, registry_of, pairs_of};
 ghost use Rattle.tera.specs.Delimiters.{delimiters_of};
 ghost use Rattle.tera_job.specs.Engines.{delimiters_given, tags_seen, prepared, AddsTo};
 
 use std::alloc::Global;
-use tera::{CallerObjects, Delimiters, Objects, Tera, TeraResult};
+use tera::{Delimiters, Objects, TeraOver, TeraResult};
 
 /// What begins and ends the three kinds of tag.
 #[derive(Clone, Copy, Debug)]
@@ -56,20 +56,20 @@ impl Tags<'_> {
     }
 }
 
-/// An engine with these settings and templates, given as names and texts; or why one of them, or all of them together, are
-/// refused.
-pub fn engine_for(
+/// Sets the engine up, and adds these templates, given as names and texts; or tells why one of them, or all of them together, are
+/// refused. After a refusal it may have some of the settings.
+pub fn furnish<O: Objects>(
     alloc: Global,
+    engine: &mut TeraOver<O>,
     settings: &Settings<'_>,
     templates: &[(&str, &str)],
-) -> TeraResult<Tera>
-    ensures { GivesOneOf (registry_of ⟦<CallerObjects as Objects>⟧.engine) result
-        (AddsTo (prepared settings.now) (pairs_of templates.now)) }
+) -> TeraResult<()>
+    ensures { let r = registry_of O.engine in
+        GivesOneOf (λ _. r engine.new) result
+        (AddsTo (prepared settings.now (r engine.old)) (pairs_of templates.now)) }
 {
-    let mut engine = Tera::new(alloc)?;
     engine.set_delimiters(settings.delimiters(alloc)?)?;
     engine.set_fallback_prefixes(settings.prefixes)?;
     engine.autoescape_on(settings.suffixes)?;
-    engine.add_raw_templates(templates)?;
-    Ok(engine)
+    engine.add_raw_templates(templates)
 }

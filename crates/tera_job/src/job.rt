@@ -8,13 +8,13 @@ ghost use Rattle.tera_job.specs.declared.job.Task.TheVariants.{Check};
 ghost use Rattle.tera_job.specs.Made.{FailsBy, Furnished, Makes, Refuses};
 
 use crate::datum::{Datum, Unreadable, context_of};
-use crate::engine::{Settings, engine_for};
+use crate::engine::{Settings, furnish};
 use crate::page::{Page, Watch, pages};
 use crate::preview::{Preview, previews};
 use crate::syntax::syntax_errors;
 use std::alloc::{AllocError, Global};
 use std::collections::BTreeSet;
-use tera::{Context, Error, ErrorKind, Objects, TeraOver, TeraResult};
+use tera::{Context, Error, ErrorKind, Objects, Tera, TeraOver, TeraResult};
 use tera_data::Floats;
 use tera_errors::Guess;
 
@@ -101,7 +101,8 @@ pub fn make<W: Watch>(alloc: Global, job: &Job<'_>, watch: &mut W) -> Result<Mad
     if let Task::Check = job.task {
         check_texts(alloc, job)?;
     }
-    let engine = engine_for(alloc, &job.settings, job.templates)?;
+    let mut engine = Tera::new(alloc)?;
+    furnish(alloc, &mut engine, &job.settings, job.templates)?;
     match do_task(alloc, &engine, &context, job.task, watch) {
         Ok(made) => Ok(made),
         Err(error) => Err(JobError::Fault(error)),

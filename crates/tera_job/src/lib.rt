@@ -11,7 +11,7 @@ pub mod preview;
 pub mod syntax;
 
 pub use datum::{DataForm, Datum, Unreadable, context_of};
-pub use engine::{Settings, Tags, engine_for};
+pub use engine::{Settings, Tags, furnish};
 pub use job::{Job, JobError, Made, Task, make};
 pub use page::{Page, Unwatched, Watch, pages};
 pub use path::{is_page, output_path};

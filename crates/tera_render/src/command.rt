@@ -41,12 +41,12 @@ pub fn words(rt: &HostRuntime) -> Result<Vec<String>, RunError> {
 }
 
 /// What the words say, or the help that they ask for, or why they say nothing.
-pub fn matches(alloc: Global, words: &[String]) -> Result<ArgMatches<'_>, RunError> {
+pub fn matches<'a>(alloc: Global, words: &'a [String]) -> Result<ArgMatches<'a>, RunError> {
     let command = command(alloc)?;
     Ok(command.try_get_matches_from(words)?)
 }
 
-fn command(alloc: Global) -> Result<Command<'static>, AllocError> {
+fn command<'a>(alloc: Global) -> Result<Command<'a>, AllocError> {
     let command = Command::new(alloc, "tera_render")
         .about(ABOUT)
         .override_usage(USAGE)
@@ -57,13 +57,13 @@ fn command(alloc: Global) -> Result<Command<'static>, AllocError> {
 }
 
 // An option that takes a value, perhaps several times.
-fn option(
+fn option<'a>(
     alloc: Global,
-    name: &'static str,
-    value: &'static str,
-    help: &'static str,
+    name: &'a str,
+    value: &'a str,
+    help: &'a str,
     action: ArgAction,
-) -> Arg<'static> {
+) -> Arg<'a> {
     Arg::new(alloc, name)
         .long(name)
         .value_name(value)
@@ -71,87 +71,101 @@ fn option(
         .action(action)
 }
 
-fn flag(alloc: Global, name: &'static str, help: &'static str) -> Arg<'static> {
+fn flag<'a>(alloc: Global, name: &'a str, help: &'a str) -> Arg<'a> {
     Arg::new(alloc, name)
         .long(name)
         .help(help)
         .action(ArgAction::SetTrue)
 }
 
-fn with_tasks(alloc: Global, command: Command<'static>) -> Result<Command<'static>, AllocError> {
-    let folder = Arg::new(alloc, "templates")
-        .value_name("TEMPLATES")
-        .required(true)
-        .help("The folder of the templates");
-    let name = Arg::new(alloc, "name")
-        .value_name("NAME")
-        .help("The template to render");
+fn with_tasks<'a>(alloc: Global, command: Command<'a>) -> Result<Command<'a>, AllocError> {
+    let command = command.arg(
+        Arg::new(alloc, "templates")
+            .value_name("TEMPLATES")
+            .required(true)
+            .help("The folder of the templates"),
+    )?;
+    let command = command.arg(
+        Arg::new(alloc, "name")
+            .value_name("NAME")
+            .help("The template to render"),
+    )?;
     let all = flag(
         alloc,
         "all",
         "Renders each template of which no part of the path begins with `_`",
-    )
-    .requires_arg("output-folder")?;
-    let check = flag(
+    );
+    let command = command.arg(all.requires_arg("output-folder")?)?;
+    let command = command.arg(flag(
         alloc,
         "check",
         "Reads and links the templates, and renders none",
-    );
-    let variables = option(
+    ))?;
+    let command = command.arg(option(
         alloc,
         "variables",
         "TEMPLATE",
         "Lists the names that this template wants to be given",
         ArgAction::Set,
-    );
-    let components = flag(alloc, "components", "Renders each component by itself");
-    let task = ArgGroup::new(alloc, "task")
-        .args(&["name", "all", "check", "variables", "components"])?
-        .required(true);
-    command
-        .arg(folder)?
-        .arg(name)?
-        .arg(all)?
-        .arg(check)?
-        .arg(variables)?
-        .arg(components)?
-        .group(task)?
-        .arg(
-            option(
-                alloc,
-                "output",
-                "FILE",
-                "Writes the text to this file, and not to standard output (`-`)",
-                ArgAction::Set,
-            )
-            .short('o')
-            .conflicts_with_all(&["all", "check", "variables"])?,
-        )?
-        .arg(
-            option(
-                alloc,
-                "output-folder",
-                "DIR",
-                "Writes the pages of --all below this folder",
-                ArgAction::Set,
-            )
-            .short('O')
-            .requires_arg("all")?,
-        )?
-        .arg(
-            option(
-                alloc,
-                "block",
-                "BLOCK",
-                "Of the template NAME, the text of this block alone",
-                ArgAction::Set,
-            )
-            .requires_arg("name")?
-            .conflicts_with_all(&["all", "check", "variables", "components"])?,
-        )
+    ))?;
+    let command = command.arg(flag(alloc, "components", "Renders each component by itself"))?;
+    let command = command.group(one_task(alloc)?)?;
+    with_outputs(alloc, command)
 }
 
-fn with_data(alloc: Global, command: Command<'static>) -> Result<Command<'static>, AllocError> {
+// One of the tasks is to be asked for.
+fn one_task<'a>(alloc: Global) -> Result<ArgGroup<'a>, AllocError> {
+    let group = ArgGroup::new(alloc, "task")
+        .arg("name")?
+        .arg("all")?
+        .arg("check")?
+        .arg("variables")?
+        .arg("components")?;
+    Ok(group.required(true))
+}
+
+fn with_outputs<'a>(alloc: Global, command: Command<'a>) -> Result<Command<'a>, AllocError> {
+    let output = option(
+        alloc,
+        "output",
+        "FILE",
+        "Writes the text to this file, and not to standard output (`-`)",
+        ArgAction::Set,
+    )
+    .short('o')
+    .conflicts_with("all")?
+    .conflicts_with("check")?
+    .conflicts_with("variables")?;
+    let command = command.arg(output)?;
+    let folder = option(
+        alloc,
+        "output-folder",
+        "DIR",
+        "Writes the pages of --all below this folder",
+        ArgAction::Set,
+    )
+    .short('O')
+    .requires_arg("all")?;
+    let command = command.arg(folder)?;
+    command.arg(block(alloc)?)
+}
+
+fn block<'a>(alloc: Global) -> Result<Arg<'a>, AllocError> {
+    option(
+        alloc,
+        "block",
+        "BLOCK",
+        "Of the template NAME, the text of this block alone",
+        ArgAction::Set,
+    )
+    .requires_arg("name")?
+    .conflicts_with("all")?
+    .conflicts_with("check")?
+    .conflicts_with("variables")?
+    .conflicts_with("components")
+}
+
+fn with_data<'a>(alloc: Global, command: Command<'a>) -> Result<Command<'a>, AllocError> {
     command
         .arg(option(
             alloc,
@@ -189,7 +203,7 @@ fn with_data(alloc: Global, command: Command<'static>) -> Result<Command<'static
         )
 }
 
-fn with_settings(alloc: Global, command: Command<'static>) -> Result<Command<'static>, AllocError> {
+fn with_settings<'a>(alloc: Global, command: Command<'a>) -> Result<Command<'a>, AllocError> {
     command
         .arg(option(
             alloc,

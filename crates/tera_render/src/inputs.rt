@@ -35,7 +35,7 @@ impl<'a> Inputs<'a> {
     pub fn read(rt: &HostRuntime, options: &Options<'a>) -> Result<Inputs<'a>, RunError> {
         let alloc = rt.alloc();
         let tags = tags(alloc, options.delimiters)?;
-        let suffixes = suffixes(alloc, options.escape)?;
+        let suffixes = suffixes(alloc, options.suffixes.as_slice())?;
         let templates = read_folder(rt, options.templates)?;
         let prefixes = theme_prefixes(alloc, options, templates.as_slice())?;
         let variables = variables(rt, options.prefixes.as_slice())?;

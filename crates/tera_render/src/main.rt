@@ -13,7 +13,9 @@ use crate::errors::RunError;
 use crate::inputs::Inputs;
 use crate::options::Options;
 use crate::progress::Progress;
+use clap::ArgMatches;
 use std::process::ExitCode;
+use tera_job::Made;
 
 /// The exit status where the help that is asked for can't be written.
 const UNWRITTEN: u8 = 3;
@@ -28,15 +30,28 @@ fn main(rt: HostRuntime) -> ExitCode {
     }
 }
 
-// From the command line to what it asks for. Nothing is written before all of it is made.
 fn run(rt: &HostRuntime) -> Result<(), RunError> {
     let words = command::words(rt)?;
-    let matches = command::matches(rt.alloc(), words.as_slice())?;
-    let options = Options::new(rt.alloc(), &matches)?;
+    run_words(rt, words.as_slice())
+}
+
+fn run_words(rt: &HostRuntime, words: &[String]) -> Result<(), RunError> {
+    let matches = command::matches(rt.alloc(), words)?;
+    run_options(rt, &matches)
+}
+
+// From what the command line says to what it asks for. Nothing is written before all of it is made.
+fn run_options(rt: &HostRuntime, matches: &ArgMatches<'_>) -> Result<(), RunError> {
+    let options = Options::new(rt.alloc(), matches)?;
     let inputs = Inputs::read(rt, &options)?;
     outputs::check(rt, &options, &inputs)?;
+    let made = make(rt, &options, &inputs)?;
+    outputs::write(rt, &options, &made)
+}
+
+fn make(rt: &HostRuntime, options: &Options<'_>, inputs: &Inputs<'_>) -> Result<Made, RunError> {
     let mut progress = Progress::new(rt, options.quiet);
-    let made = inputs.make(rt.alloc(), &options, &mut progress);
+    let made = inputs.make(rt.alloc(), options, &mut progress);
     progress.end();
-    outputs::write(rt, &options, &made?)
+    made
 }

@@ -1,9 +1,12 @@
 // What the command line says.
 use crate::errors::RunError;
 use clap::ArgMatches;
-use std::alloc::Global;
+use std::alloc::{AllocError, Global};
 use tera_data::Floats;
 use tera_job::{DataForm, Task};
+
+/// Suffixes of templates that escape where nothing else is said.
+const USUAL: [&str; 3] = [".html", ".htm", ".xml"];
 
 /// A word of `-d`: a file of data, and the name at which all of it is put, if one is given.
 #[derive(Clone, Copy, Debug)]
@@ -20,16 +23,6 @@ impl DataFile<'_> {
     }
 }
 
-/// Which templates escape.
-#[derive(Clone, Copy, Debug)]
-pub enum Escape<'a> {
-    /// Those with the usual suffixes.
-    Usual,
-    /// Those with one of these.
-    Suffixes(&'a [&'a str]),
-    None,
-}
-
 /// What the command line says, checked word by word.
 #[derive(Drop)]
 pub struct Options<'a> {
@@ -42,7 +35,8 @@ pub struct Options<'a> {
     pub words: Vec<(&'a str, &'a str)>,
     pub prefixes: Vec<&'a str>,
     pub floats: Floats,
-    pub escape: Escape<'a>,
+    /// Suffixes of templates that escape.
+    pub suffixes: Vec<&'a str>,
     pub themes: Vec<&'a str>,
     pub delimiters: Option<&'a str>,
     pub quiet: bool,
@@ -50,30 +44,37 @@ pub struct Options<'a> {
 
 impl<'a> Options<'a> {
     /// What the matches say; or what of it makes no sense.
-    pub fn new(alloc: Global, matches: &'a ArgMatches<'a>) -> Result<Options<'a>, RunError> {
-        let escape = escape_of(matches);
+    pub fn new(alloc: Global, matches: &ArgMatches<'a>) -> Result<Options<'a>, RunError> {
         Ok(Options {
             templates: matches.get_str("templates").unwrap_or("."),
-            task: task_of(matches, !matches!(escape, Escape::None)),
+            task: task_of(matches),
             output: matches.get_str("output"),
             output_folder: matches.get_str("output-folder"),
-            files: files_of(alloc, values_of(matches, "data"))?,
-            words: words_of(alloc, values_of(matches, "define"))?,
-            prefixes: Vec::from_slice(alloc, values_of(matches, "env"))?,
+            files: files_of(alloc, values_of(alloc, matches, "data")?.as_slice())?,
+            words: words_of(alloc, values_of(alloc, matches, "define")?.as_slice())?,
+            prefixes: values_of(alloc, matches, "env")?,
             floats: floats_of(matches),
-            escape,
-            themes: Vec::from_slice(alloc, values_of(matches, "theme"))?,
+            suffixes: suffixes_of(alloc, matches)?,
+            themes: values_of(alloc, matches, "theme")?,
             delimiters: matches.get_str("delimiters"),
             quiet: matches.get_flag("quiet"),
         })
     }
 }
 
-fn values_of<'m, 'a>(matches: &'m ArgMatches<'a>, name: &str) -> &'m [&'a str] {
-    matches.get_strs(name).unwrap_or(&[])
+// All values of an option that may stand several times.
+fn values_of<'a>(
+    alloc: Global,
+    matches: &ArgMatches<'a>,
+    name: &str,
+) -> Result<Vec<&'a str>, AllocError> {
+    match matches.get_strs(name) {
+        Some(values) => Vec::from_slice(alloc, values),
+        None => Ok(Vec::new(alloc)),
+    }
 }
 
-fn task_of<'a>(matches: &'a ArgMatches<'a>, autoescape: bool) -> Task<'a> {
+fn task_of<'a>(matches: &ArgMatches<'a>) -> Task<'a> {
     if let Some(name) = matches.get_str("name") {
         return match matches.get_str("block") {
             Some(block) => Task::Block { name, block },
@@ -84,7 +85,9 @@ fn task_of<'a>(matches: &'a ArgMatches<'a>, autoescape: bool) -> Task<'a> {
         return Task::Variables { name };
     }
     if matches.get_flag("components") {
-        return Task::Components { autoescape };
+        return Task::Components {
+            autoescape: !matches.get_flag("no-escape"),
+        };
     }
     if matches.get_flag("all") {
         return Task::All;
@@ -99,14 +102,17 @@ fn floats_of(matches: &ArgMatches<'_>) -> Floats {
     }
 }
 
-fn escape_of<'a>(matches: &'a ArgMatches<'a>) -> Escape<'a> {
+fn suffixes_of<'a>(alloc: Global, matches: &ArgMatches<'a>) -> Result<Vec<&'a str>, AllocError> {
     if matches.get_flag("no-escape") {
-        return Escape::None;
+        return Ok(Vec::new(alloc));
     }
-    match matches.get_strs("escape") {
-        Some(suffixes) => Escape::Suffixes(suffixes),
-        None => Escape::Usual,
+    let mut suffixes = values_of(alloc, matches, "escape")?;
+    if suffixes.is_empty() {
+        for suffix in USUAL.iter() {
+            suffixes.push(*suffix)?;
+        }
     }
+    Ok(suffixes)
 }
 
 fn files_of<'a>(alloc: Global, words: &[&'a str]) -> Result<Vec<DataFile<'a>>, RunError> {

@@ -1,23 +1,15 @@
 // Settings of the engine, from options.
 use crate::errors::RunError;
-use crate::options::{Escape, Options};
+use crate::options::Options;
 use std::alloc::Global;
 use tera_folders::{FileError, TextFile};
 use tera_job::Tags;
 
-/// Suffixes that escape where nothing else is said.
-const USUAL: [&str; 3] = [".html", ".htm", ".xml"];
-
 /// Suffixes that may stand after the one that tells of escaping.
 const TEMPLATE_SUFFIXES: [&str; 4] = ["", ".tera", ".j2", ".jinja"];
 
-/// The suffixes of templates that escape, each by itself and before one that says that a file is a template.
-pub fn suffixes(alloc: Global, escape: Escape<'_>) -> Result<Vec<String>, RunError> {
-    let given = match escape {
-        Escape::Usual => USUAL.as_slice(),
-        Escape::Suffixes(suffixes) => suffixes,
-        Escape::None => &[],
-    };
+/// Each of these suffixes, by itself and before one that says that a file is a template.
+pub fn suffixes(alloc: Global, given: &[&str]) -> Result<Vec<String>, RunError> {
     let mut suffixes = Vec::new(alloc);
     for suffix in given {
         for last in TEMPLATE_SUFFIXES.iter() {

@@ -41,31 +41,39 @@ fn folders_are_read_in_byte_order(rt: HostRuntime) -> Result<(), Fail> {
     Ok(())
 }
 
+/// Paths, and whether what is written there lies in the folder `place/t`.
+const PLACES: [(&str, bool); 8] = [
+    ("place/t", true),
+    ("place/t/", true),
+    ("place/t/x/y", true),
+    ("place/tt/../t/x", true),
+    ("place/tt", false),
+    ("place/ttt/x", false),
+    ("place", false),
+    ("new", false),
+];
+
 #[test]
-fn places_are_told_apart(rt: HostRuntime) -> Result<(), Fail> {
+fn places_are_told_apart(rt: HostRuntime) {
     assert!(rt; write_files(&rt, "place", [("t/a.html", ""), ("tt/b", "")].as_slice()).is_ok());
-    for (path, want) in [
-        ("place/t", true),
-        ("place/t/", true),
-        ("place/t/x/y", true),
-        ("place/tt/../t/x", true),
-        ("place/tt", false),
-        ("place/ttt/x", false),
-        ("place", false),
-        ("new", false),
-    ] {
+    for place in PLACES.iter() {
+        let path = place.0;
         match lies_in(&rt, path, "place/t") {
-            Ok(lies) => assert!(rt; lies == want, "{path}"),
+            Ok(lies) => assert!(rt; lies == place.1, "{path}"),
             Err(_) => assert!(rt; false, "{path}"),
         }
     }
-    match name_in(&rt, "place/tt/../t/a.html", "place/t") {
+}
+
+#[test]
+fn names_in_a_folder_are_found(rt: HostRuntime) {
+    assert!(rt; write_files(&rt, "named", [("t/a.html", ""), ("tt/b", "")].as_slice()).is_ok());
+    match name_in(&rt, "named/tt/../t/a.html", "named/t") {
         Ok(Some(name)) => assert!(rt; name.as_str() == "a.html"),
         _ => assert!(rt; false, "no name"),
     }
-    assert!(rt; matches!(name_in(&rt, "place/t/none", "place/t"), Ok(None)));
-    assert!(rt; matches!(name_in(&rt, "place/tt/b", "place/t"), Ok(None)));
-    Ok(())
+    assert!(rt; matches!(name_in(&rt, "named/t/none", "named/t"), Ok(None)));
+    assert!(rt; matches!(name_in(&rt, "named/tt/b", "named/t"), Ok(None)));
 }
 
 // Each call fails in turn: then the file is as it was, and nothing lies beside it.

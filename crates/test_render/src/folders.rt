@@ -65,15 +65,27 @@ fn places_are_told_apart(rt: HostRuntime) {
     }
 }
 
+fn has_name(rt: &HostRuntime, path: &str, want: &str) -> bool {
+    match name_in(rt, path, "named/t") {
+        Ok(Some(name)) => name.as_str() == want,
+        _ => false,
+    }
+}
+
+fn has_no_name(rt: &HostRuntime, path: &str) -> bool {
+    match name_in(rt, path, "named/t") {
+        Ok(name) => name.is_none(),
+        Err(_) => false,
+    }
+}
+
 #[test]
 fn names_in_a_folder_are_found(rt: HostRuntime) {
-    assert!(rt; write_files(&rt, "named", [("t/a.html", ""), ("tt/b", "")].as_slice()).is_ok());
-    match name_in(&rt, "named/tt/../t/a.html", "named/t") {
-        Ok(Some(name)) => assert!(rt; name.as_str() == "a.html"),
-        _ => assert!(rt; false, "no name"),
-    }
-    assert!(rt; matches!(name_in(&rt, "named/t/none", "named/t"), Ok(None)));
-    assert!(rt; matches!(name_in(&rt, "named/tt/b", "named/t"), Ok(None)));
+    let files = [("t/a.html", ""), ("tt/b", "")];
+    assert!(rt; write_files(&rt, "named", files.as_slice()).is_ok());
+    assert!(rt; has_name(&rt, "named/tt/../t/a.html", "a.html"));
+    assert!(rt; has_no_name(&rt, "named/t/none"));
+    assert!(rt; has_no_name(&rt, "named/tt/b"));
 }
 
 // Each call fails in turn: then the file is as it was, and nothing lies beside it.

@@ -30,7 +30,10 @@ pub fn words(rt: &HostRuntime) -> Result<Vec<String>, RunError> {
         Ok(all) => all,
         Err(error) if error.kind() == ErrorKind::OutOfMemory => return Err(RunError::NoMemory),
         Err(_) => {
-            let words = String::from_str(alloc, "an argument is no text in UTF-8");
+            let words = String::from_str(
+                alloc,
+                "an argument of the command line is no text in UTF-8",
+            );
             return Err(RunError::usage(words));
         }
     };

@@ -7,6 +7,7 @@ use std::alloc::Global;
 use std::env;
 use std::env::VarError;
 use std::io::Read;
+use tera::ErrorKind;
 use tera_data::text_of;
 use tera_folders::{FileError, TextFile, read_bytes, read_folder};
 use tera_job::{Datum, Job, JobError, Made, Settings, Tags, make};
@@ -142,7 +143,10 @@ fn check_tags(alloc: Global, settings: &Settings<'_>) -> Result<(), RunError> {
     };
     match delimiters.validate(alloc) {
         Ok(()) => Ok(()),
-        Err(error) => Err(RunError::usage(format!(in alloc; "--delimiters: {error}"))),
+        Err(error) => match error.kind() {
+            ErrorKind::OutOfMemory => Err(RunError::NoMemory),
+            _ => Err(RunError::usage(format!(in alloc; "--delimiters: {error}"))),
+        },
     }
 }
 
@@ -207,7 +211,10 @@ fn variables(rt: &HostRuntime, prefixes: &[&str]) -> Result<Vec<(String, String)
         Ok(all) => all,
         Err(VarError::OutOfMemory) => return Err(RunError::NoMemory),
         Err(_) => {
-            let words = String::from_str(alloc, "a variable of the environment is no UTF-8");
+            let words = String::from_str(
+                alloc,
+                "--env: a variable of the environment is no text in UTF-8",
+            );
             return Err(RunError::usage(words));
         }
     };

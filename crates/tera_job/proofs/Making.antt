@@ -1,7 +1,7 @@
 -- Pages, one after another.
-use Rattle.std.proofs.Common.{◌≡◌, Bool, true, false, cond, filter, ℕ, ◌+◌, ◌<◌, ◌≤◌, List, [], ◌∷◌, ◌++◌, length, take, drop, map, Ok, Err, refl, sym, ap, ◌∙◌, subst}
+use Rattle.std.proofs.Common.{◌≡◌, Bool, true, false, cond, filter, ℕ, ◌+◌, ◌<◌, List, [], ◌∷◌, ◌++◌, length, take, drop, map, Ok, Err, refl, sym, ap, ◌∙◌, subst}
 use Rattle.std.proofs.Math.ListN.{get_or}
-use Rattle.std.proofs.lemmas.List.{take_all, take_more, drop_more, take-append-drop, get_or-map}
+use Rattle.std.proofs.lemmas.List.{take_more, drop_more, take-append-drop, get_or-map}
 use Rattle.std.specs.Prelude.{String, string_bytes, Some, None}
 use Rattle.tera.specs.Site.{Name}
 use Rattle.tera.specs.Fault.{Fault}
@@ -16,10 +16,6 @@ made_more r context [] [] name page h k = (k, tt)
 made_more r context [] (q ∷ qs) name page h k = absurd h
 made_more r context (n ∷ ns) [] name page h k = absurd h
 made_more r context (n ∷ ns) (q ∷ qs) name page h k = (h.0, made_more r context ns qs name page h.1 k)
-
--- all of them are made
-pub made_all : (r : Registry) (context : Named Val) (names : List Name) (i : ℕ) (pages : List SeenPage) → length names ≤ i → AreMade r context (take i names) pages → AreMade r context names pages
-made_all r context names i pages end h = subst (λ ns. AreMade r context ns pages) (take_all i names end) h
 
 -- one more
 pub made_at : (r : Registry) (context : Named Val) (names : List Name) (i : ℕ) (name : Name) (pages : List SeenPage) (page : SeenPage) → i < length names → get_or names i [] ≡ name → AreMade r context (take i names) pages → IsPage r context name (Ok page) → AreMade r context (take (i + 1) names) (pages ++ page ∷ [])

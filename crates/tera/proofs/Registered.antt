@@ -1,6 +1,6 @@
 -- What registering leaves of a registry.
 use Rattle.std.proofs.Common.{◌≡◌, List, [], Some, None, Result, Ok, Err, OnOk, OnErr, IfErr, refl, sym, ap, subst}
-use Rattle.tera_errors.specs.Answer.{SeenError, Lacks}
+use Rattle.tera_errors.specs.Answer.{SeenError, Gives, Lacks}
 use Rattle.tera_errors.specs.Site.{Text}
 use Rattle.tera_syntax_tree.specs.Delimiters.{Delims, standard}
 use Rattle.tera_values.specs.Val.{Val}
@@ -12,7 +12,7 @@ use Rattle.tera_state.specs.declared.objects.caller_objects.ObjectsOver.{Objects
 use Rattle.tera_meaning.specs.Registry.{Template, Registry, new_registry, standard_suffixes}
 use Rattle.tera.specs.declared.engine.TeraOver.{TeraOver}
 use Rattle.tera.specs.Configuring.{Configures}
-use Rattle.tera.specs.Registering.{with_engine, MovesFrom}
+use Rattle.tera.specs.Registering.{with_engine, new_registry_with, MovesFrom}
 use Rattle.tera.specs.Registry.{registry_of}
 
 -- the registry of these parts
@@ -53,7 +53,11 @@ module _ {E F T G : Type 0} (t : TeraOver (ObjectsOver E F T G)) (left : Objects
       let P : ObjectsOver E F T G → Type 0 = λ o. MovesFrom result (engine_of m o) (registry_of (engine_of m) t) (registry_of (engine_of m) (record t { objects = left })) in
       subst P is (moves (registry_of (engine_of m) t) (engine_of m left) (engine_of m taken) result (ok m) (err m) lacks)
 
--- a registry is new where each of its parts is
-pub is-new : (ts : Named Template) (ps ss : List Text) (d : Delims) (global : Named Val) (e : Engine) → ts ≡ [] → ps ≡ [] → ss ≡ standard_suffixes → d ≡ standard → global ≡ [] → e ≡ standard_engine → new_registry ≡ parts ts ps ss d global e
-is-new ts ps ss d global e no_templates no_prefixes html tags empty no_objects =
-    rw (no_templates, no_prefixes, html, tags, empty, no_objects) refl
+-- a registry is new where each of its parts is but the engine
+pub is-new : (ts : Named Template) (ps ss : List Text) (d : Delims) (global : Named Val) (e : Engine) → ts ≡ [] → ps ≡ [] → ss ≡ standard_suffixes → d ≡ standard → global ≡ [] → new_registry_with e ≡ parts ts ps ss d global e
+is-new ts ps ss d global e no_templates no_prefixes html tags empty =
+    rw (no_templates, no_prefixes, html, tags, empty) refl
+
+-- and an engine without objects is that of a new registry
+pub is-standard : {X : Type 0} (seen : X → Registry) (result : Result X SeenError) (e : Engine) → e ≡ standard_engine → Gives seen result (Ok (new_registry_with e)) → Gives seen result (Ok new_registry)
+is-standard seen result e none = subst (λ e. Gives seen result (Ok (new_registry_with e))) none

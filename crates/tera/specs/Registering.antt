@@ -5,7 +5,7 @@ use Rattle.tera_state.specs.Engine.{Engine}
 use Rattle.tera_state.specs.Kept.{Meanings, engine_of}
 use Rattle.tera_state.specs.Moving.{with_those_of, MovedInPart}
 use Rattle.tera_state.specs.declared.objects.caller_objects.ObjectsOver.{ObjectsOver}
-use Rattle.tera_meaning.specs.Registry.{Registry}
+use Rattle.tera_meaning.specs.Registry.{Registry, new_registry}
 use Rattle.tera.specs.Configuring.{Configures}
 use Rattle.tera.specs.Registry.{registry_of}
 use Rattle.tera.specs.declared.engine.TeraOver.{TeraOver}
@@ -13,6 +13,10 @@ use Rattle.tera.specs.declared.engine.TeraOver.{TeraOver}
 -- the registry with what this makes of its engine
 abbrev pub with_engine : (Engine → Engine) → Registry → Registry
 with_engine change r = record r { engine = change r.engine }
+
+-- the registry of a new engine with these objects
+abbrev pub new_registry_with : Engine → Registry
+new_registry_with engine = record new_registry { engine = engine }
 
 -- how a call ends that registers: with its engine changed like this, whatever the objects mean,
 -- or with an error and the engine of before

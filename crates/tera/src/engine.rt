@@ -61,14 +61,7 @@ impl TeraOver<CallerObjects> {
         ensures { Gives (registry_of ⟦<CallerObjects as Objects>⟧.engine) result
             (Ok new_registry) }
     {
-        Ok(TeraOver {
-            alloc,
-            templates: Templates::new(alloc, Vec::new(alloc)),
-            suffixes: standard_suffixes(alloc)?,
-            delimiters: Delimiters::standard(alloc)?,
-            global_context: Context::new(alloc),
-            objects: CallerObjects::new(alloc),
-        })
+        TeraOver::with_objects(alloc, CallerObjects::new(alloc))
     }
 
     /// Renders a text by an engine to which nothing else was said.
@@ -88,7 +81,23 @@ impl TeraOver<CallerObjects> {
 
 impl<O: Objects> TeraOver<O> {
     ghost use Rattle.tera.specs.Registry.{registry_of};
+    ghost use Rattle.tera.specs.Registering.{new_registry_with};
     ghost use Rattle.tera.specs.Lending.{LendsGlobal};
+
+    /// An engine as `Tera::new` makes it, with these objects: a caller's own type of them, or `UnboxedObjects` of enums that a
+    /// library defines.
+    pub fn with_objects(alloc: Global, objects: O) -> TeraResult<TeraOver<O>>
+        ensures { Gives (registry_of O.engine) result (Ok (new_registry_with (O.engine objects))) }
+    {
+        Ok(TeraOver {
+            alloc,
+            templates: Templates::new(alloc, Vec::new(alloc)),
+            suffixes: standard_suffixes(alloc)?,
+            delimiters: Delimiters::standard(alloc)?,
+            global_context: Context::new(alloc),
+            objects,
+        })
+    }
 
     /// What every rendering of this engine reads where neither the template nor the caller's context binds a name. What is written to
     /// it is the engine's global context from then on. Takes no memory.

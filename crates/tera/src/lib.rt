@@ -35,9 +35,9 @@ pub use tera_syntax_tree::{
 pub use tera_built_ins::{BuiltInFilter, BuiltInFunction, BuiltInTest, EscapeFn, Escaping};
 pub use tera_operators::{Entries, LentOperand, Operand};
 pub use tera_state::{
-    BuiltInKind, CallerObjects, Filter, ForLoop, ForLoopIterator, FoundValue, Function, Implicits,
-    ObjectCall, ObjectTable, Objects, ObjectsOver, OwnFilters, Stack, State, StateOver, Stored,
-    StoredFilter, StoredFunction, StoredTest, Test, write_value,
+    BuiltInKind, CallerObjects, Filter, ForLoop, ForLoopIterator, FoundValue, Function, HtmlEscape,
+    Implicits, ObjectCall, ObjectTable, Objects, ObjectsOver, OwnFilters, Stack, State, StateOver,
+    Stored, StoredFilter, StoredFunction, StoredTest, Test, UnboxedObjects, write_value,
 };
 // Code, templates by name, and what runs.
 pub use tera_code::{

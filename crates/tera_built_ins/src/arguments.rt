@@ -11,9 +11,9 @@ use tera_values::{Arguments, Error, Map, Shape, TeraResult, Value};
 
 /// A text, and whether it is marked safe.
 #[derive(Clone, Copy)]
-pub(crate) struct Given<'a> {
-    pub(crate) text: &'a str,
-    pub(crate) is_safe: bool,
+pub struct Given<'a> {
+    pub text: &'a str,
+    pub is_safe: bool,
 }
 
 // A text, which is the argument of this name or what is worked on.
@@ -28,14 +28,14 @@ fn text_in<'a>(alloc: Global, argument: Option<&str>, value: &'a Value) -> TeraR
 }
 
 /// The text that is worked on, and no other kind. Takes no memory but for a fault's words.
-pub(crate) fn as_text(alloc: Global, value: &Value) -> TeraResult<Given<'_>>
+pub fn as_text(alloc: Global, value: &Value) -> TeraResult<Given<'_>>
     ensures { Gives given_of result (spec.as_text value.now) }
 {
     text_in(alloc, None, value)
 }
 
 /// The items of an array, and no other kind. Takes no memory but for a fault's words.
-pub(crate) fn as_array(alloc: Global, value: &Value) -> TeraResult<&[Value]>
+pub fn as_array(alloc: Global, value: &Value) -> TeraResult<&[Value]>
     ensures { Gives (λ s. s.now) result (spec.as_array value.now) }
 {
     match value.shape() {
@@ -45,7 +45,7 @@ pub(crate) fn as_array(alloc: Global, value: &Value) -> TeraResult<&[Value]>
 }
 
 /// A map, and no other kind. Takes no memory but for a fault's words.
-pub(crate) fn as_map(alloc: Global, value: &Value) -> TeraResult<&Map>
+pub fn as_map(alloc: Global, value: &Value) -> TeraResult<&Map>
     ensures { Gives (λ m. m.now) result (spec.as_map value.now) }
 {
     match value.shape() {
@@ -66,7 +66,7 @@ fn integer_in(alloc: Global, argument: Option<&str>, value: &Value) -> TeraResul
 }
 
 /// The integer that is worked on, and no other kind. Takes no memory but for a fault's words.
-pub(crate) fn as_integer(alloc: Global, value: &Value) -> TeraResult<i128>
+pub fn as_integer(alloc: Global, value: &Value) -> TeraResult<i128>
     ensures { Gives (λ z. z) result (spec.as_integer value.now) }
 {
     integer_in(alloc, None, value)
@@ -115,10 +115,7 @@ fn out_of_range(alloc: Global, argument: &str, number: i128) -> Error
 }
 
 /// A text that may be left out.
-pub(crate) fn optional_text<'a>(
-    arguments: &Arguments<'a>,
-    name: &str,
-) -> TeraResult<Option<Given<'a>>>
+pub fn optional_text<'a>(arguments: &Arguments<'a>, name: &str) -> TeraResult<Option<Given<'a>>>
     ensures { Gives (λ o. option_map given_of o) result
         (spec.optional spec.as_text name.now arguments.now) }
 {
@@ -133,7 +130,7 @@ pub(crate) fn optional_text<'a>(
 
 /// A text that must be there.
 #[inline(always)]
-pub(crate) fn needed_text<'a>(arguments: &Arguments<'a>, name: &str) -> TeraResult<Given<'a>>
+pub fn needed_text<'a>(arguments: &Arguments<'a>, name: &str) -> TeraResult<Given<'a>>
     ensures { Gives given_of result (spec.needed spec.as_text name.now arguments.now) }
 {
     match arguments.value(name) {
@@ -143,11 +140,7 @@ pub(crate) fn needed_text<'a>(arguments: &Arguments<'a>, name: &str) -> TeraResu
 }
 
 /// The bytes of a text, or the default where it is left out.
-pub(crate) fn text_or<'a>(
-    arguments: &Arguments<'a>,
-    name: &str,
-    default: &'a str,
-) -> TeraResult<&'a str>
+pub fn text_or<'a>(arguments: &Arguments<'a>, name: &str, default: &'a str) -> TeraResult<&'a str>
     ensures { Gives (λ s. s.now) result
         (spec.or_default default.now (spec.as_bytes plain) name.now arguments.now) }
 {
@@ -161,7 +154,7 @@ pub(crate) fn text_or<'a>(
 }
 
 /// A value of any kind that must be there.
-pub(crate) fn needed_value<'a>(arguments: &Arguments<'a>, name: &str) -> TeraResult<&'a Value>
+pub fn needed_value<'a>(arguments: &Arguments<'a>, name: &str) -> TeraResult<&'a Value>
     ensures { Gives (λ v. v.now) result (spec.needed spec.as_any name.now arguments.now) }
 {
     match arguments.value(name) {
@@ -172,7 +165,7 @@ pub(crate) fn needed_value<'a>(arguments: &Arguments<'a>, name: &str) -> TeraRes
 
 /// An integer that must be there.
 #[inline(always)]
-pub(crate) fn needed_integer(arguments: &Arguments<'_>, name: &str) -> TeraResult<i128>
+pub fn needed_integer(arguments: &Arguments<'_>, name: &str) -> TeraResult<i128>
     ensures { Gives (λ z. z) result (spec.needed spec.as_integer name.now arguments.now) }
 {
     match arguments.value(name) {
@@ -182,7 +175,7 @@ pub(crate) fn needed_integer(arguments: &Arguments<'_>, name: &str) -> TeraResul
 }
 
 /// An integer, or the default where it is left out.
-pub(crate) fn integer_or(arguments: &Arguments<'_>, name: &str, default: i128) -> TeraResult<i128>
+pub fn integer_or(arguments: &Arguments<'_>, name: &str, default: i128) -> TeraResult<i128>
     ensures { Gives (λ z. z) result
         (spec.or_default default spec.as_integer name.now arguments.now) }
 {
@@ -193,7 +186,7 @@ pub(crate) fn integer_or(arguments: &Arguments<'_>, name: &str, default: i128) -
 }
 
 /// A size that must be there.
-pub(crate) fn needed_size(arguments: &Arguments<'_>, name: &str) -> TeraResult<usize>
+pub fn needed_size(arguments: &Arguments<'_>, name: &str) -> TeraResult<usize>
     ensures { Gives (λ n. n) result
         (spec.needed (spec.as_natural (2 ^ 64)) name.now arguments.now) }
 {
@@ -204,7 +197,7 @@ pub(crate) fn needed_size(arguments: &Arguments<'_>, name: &str) -> TeraResult<u
 }
 
 /// A size, or the default where it is left out.
-pub(crate) fn size_or(arguments: &Arguments<'_>, name: &str, default: usize) -> TeraResult<usize>
+pub fn size_or(arguments: &Arguments<'_>, name: &str, default: usize) -> TeraResult<usize>
     ensures { Gives (λ n. n) result
         (spec.or_default default (spec.as_natural (2 ^ 64)) name.now arguments.now) }
 {
@@ -212,7 +205,7 @@ pub(crate) fn size_or(arguments: &Arguments<'_>, name: &str, default: usize) -> 
 }
 
 /// An integer from 0 to `most`, or the default where it is left out.
-pub(crate) fn natural_or(
+pub fn natural_or(
     arguments: &Arguments<'_>,
     name: &str,
     default: usize,
@@ -228,7 +221,7 @@ pub(crate) fn natural_or(
 }
 
 /// A truth value, or false where it is left out.
-pub(crate) fn flag(arguments: &Arguments<'_>, name: &str) -> TeraResult<bool>
+pub fn flag(arguments: &Arguments<'_>, name: &str) -> TeraResult<bool>
     ensures { Gives (λ b. b) result
         (spec.or_default false spec.as_bool name.now arguments.now) }
 {

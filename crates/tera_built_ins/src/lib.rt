@@ -1,7 +1,7 @@
 //! The filters, tests and functions that every engine has.
 #![tactic(auto)]
 
-mod arguments;
+pub mod arguments;
 mod attributes;
 pub mod built_in_filter;
 pub mod built_in_function;

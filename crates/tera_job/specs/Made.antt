@@ -5,7 +5,7 @@ use Rattle.tera.specs.Answer.{SeenError, SaysOneOf}
 use Rattle.tera.specs.Val.{Val}
 use Rattle.tera.specs.Named.{Named}
 use Rattle.tera.specs.Batch.{pairs_of}
-use Rattle.tera.specs.MeaningRegistry.{Registry, new_registry}
+use Rattle.tera.specs.MeaningRegistry.{Registry}
 use Rattle.tera.specs.Resolve.{resolve}
 use Rattle.tera.specs.Variables.{AnswersVariables}
 use Rattle.tera.specs.Rendering.{ByName, BlockByName}
@@ -22,11 +22,12 @@ use Rattle.tera_job.specs.declared.job.Made.TheVariants as made
 use Rattle.tera_job.specs.declared.job.JobError.{JobError}
 use Rattle.tera_job.specs.declared.job.JobError.TheVariants as error
 
--- the registry that the templates give with the settings, and the context that the data gives
-pub record Furnished (job : Job) : Type 0 where
+-- the registry that the templates give with the settings, from this one on, and the context that
+-- the data gives
+pub record Furnished (start : Registry) (job : Job) : Type 0 where
   pub registry : Registry
   pub context : Named Val
-  pub adds : AddsTo (prepared job.settings new_registry) (pairs_of job.templates.now) (Ok registry)
+  pub adds : AddsTo (prepared job.settings start) (pairs_of job.templates.now) (Ok registry)
   pub gives : IsContextOf job.floats job.given.now (Ok context)
 
 -- what a task makes: exactly what the engine means by it
@@ -57,19 +58,20 @@ FailsBy r context t None = Unit {0}
 FailsBy r context t (Some fault) = Fails r context t fault
 
 -- a fault of the templates together, or of what is made of them
-pub data IsFault (job : Job) (fault : Fault) : Type 0 where
-  of_templates : AddsTo (prepared job.settings new_registry) (pairs_of job.templates.now) (Err fault)
-      → IsFault job fault
-  of_task : (f : Furnished job) → Fails f.registry f.context job.task fault → IsFault job fault
+pub data IsFault (start : Registry) (job : Job) (fault : Fault) : Type 0 where
+  of_templates : AddsTo (prepared job.settings start) (pairs_of job.templates.now) (Err fault)
+      → IsFault start job fault
+  of_task : (f : Furnished start job) → Fails f.registry f.context job.task fault
+      → IsFault start job fault
 
 -- Why a job is refused: the first datum that can't be read; templates, or what is made of them; or
 -- all texts that spell no tree.
-abbrev pub Refuses : Job → JobError → Type 0
-Refuses job (error.Unreadable u) =
+abbrev pub Refuses : Registry → Job → JobError → Type 0
+Refuses start job (error.Unreadable u) =
     AreReadable job.floats (take u.position job.given.now)
     × SaysOneOf u.error (IsContextOf job.floats job.given.now)
-Refuses job (error.Fault None) = Unit {0}
-Refuses job (error.Fault (Some fault)) = IsFault job fault
-Refuses job (error.Syntax es) =
+Refuses start job (error.Fault None) = Unit {0}
+Refuses start job (error.Fault (Some fault)) = IsFault start job fault
+Refuses start job (error.Syntax es) =
     (job.task ≡ task.Check) × (es.items ≢ [])
     × AreUnread (delimiters_given job.settings) (pairs_of job.templates.now) es.items

@@ -1,6 +1,8 @@
 // A whole job: from texts to what is asked for, or to the first fault.
-ghost use Rattle.std.specs.Prelude.{◌≡◌, None, IfErr, IfOk, map, string_bytes};
-ghost use Rattle.tera.specs.Prelude.{GivesOneOf, registry_of};
+ghost use Rattle.std.specs.Prelude.{◌≡◌, None, Ok, IfErr, IfOk, map, string_bytes};
+ghost use Rattle.tera.specs.Prelude.{Gives, GivesOneOf, registry_of};
+ghost use Rattle.tera.specs.MeaningRegistry.{Registry, new_registry};
+ghost use Rattle.tera.specs.Registering.{new_registry_with};
 ghost use Rattle.tera.specs.Resolve.{resolve};
 ghost use Rattle.tera.specs.Variables.{AnswersVariables};
 ghost use Rattle.tera_job.specs.declared.job.JobError.TheVariants.{Fault, Unreadable};
@@ -91,17 +93,51 @@ impl From<Unreadable> for JobError {
     }
 }
 
-/// Does the job: data is read first, then templates, and then what is asked for is made, all of it or nothing.
+/// Does the job with a new engine: data is read first, then templates, and then what is asked for is made, all of it or nothing.
 pub fn make<W: Watch>(alloc: Global, job: &Job<'_>, watch: &mut W) -> Result<Made, JobError>
-    ensures made { IfOk result (λ m. (f : Furnished job.now)
+    ensures made { IfOk result (λ m. (f : Furnished new_registry job.now)
         × Makes f.registry f.context job.now.task m) }
-    ensures refused { IfErr result (λ e. Refuses job.now e) }
+    ensures refused { IfErr result (λ e. Refuses new_registry job.now e) }
+{
+    make_by(alloc, Tera::new(alloc), job, watch)
+}
+
+/// Does the job as `make`, with a new engine that has these objects.
+pub fn make_with<O: Objects, W: Watch>(
+    alloc: Global,
+    objects: O,
+    job: &Job<'_>,
+    watch: &mut W,
+) -> Result<Made, JobError>
+    ensures made { IfOk result (λ m.
+        (f : Furnished (new_registry_with (O.engine objects)) job.now)
+        × Makes f.registry f.context job.now.task m) }
+    ensures refused { IfErr result (λ e.
+        Refuses (new_registry_with (O.engine objects)) job.now e) }
+{
+    make_by(alloc, TeraOver::with_objects(alloc, objects), job, watch)
+}
+
+// Does the job with this engine, or answers why there is none, where data and texts can be read.
+fn make_by<O: Objects, W: Watch>(
+    alloc: Global,
+    engine: TeraResult<TeraOver<O>>,
+    job: &Job<'_>,
+    watch: &mut W,
+) -> Result<Made, JobError>
+    ensures made { (start : Registry) → Gives (registry_of O.engine) engine (Ok start)
+        → IfOk result (λ m. (f : Furnished start job.now)
+        × Makes f.registry f.context job.now.task m) }
+    ensures refused { (start : Registry) → Gives (registry_of O.engine) engine (Ok start)
+        → IfErr result (λ e. Refuses start job.now e) }
 {
     let context = context_of(alloc, job.given, job.floats)?;
     if let Task::Check = job.task {
-        check_texts(alloc, job)?;
+        if let Err(error) = check_texts(alloc, job) {
+            return Err(error);
+        }
     }
-    let mut engine = Tera::new(alloc)?;
+    let mut engine = engine?;
     furnish(alloc, &mut engine, &job.settings, job.templates)?;
     match do_task(alloc, &engine, &context, job.task, watch) {
         Ok(made) => Ok(made),
@@ -111,7 +147,8 @@ pub fn make<W: Watch>(alloc: Global, job: &Job<'_>, watch: &mut W) -> Result<Mad
 
 // Whether each text spells a tree.
 fn check_texts(alloc: Global, job: &Job<'_>) -> Result<(), JobError>
-    ensures { IfErr result (λ e. job.now.task ≡ Check → Refuses job.now e) }
+    ensures { (start : Registry) → IfErr result (λ e.
+        job.now.task ≡ Check → Refuses start job.now e) }
 {
     match syntax_errors(alloc, &job.settings, job.templates) {
         Ok(errors) if errors.is_empty() => Ok(()),

@@ -12,7 +12,7 @@ pub mod syntax;
 
 pub use datum::{DataForm, Datum, Unreadable, context_of};
 pub use engine::{Settings, Tags, furnish};
-pub use job::{Job, JobError, Made, Task, make};
+pub use job::{Job, JobError, Made, Task, make, make_with};
 pub use page::{Page, Unwatched, Watch, pages};
 pub use path::{is_page, output_path};
 pub use preview::{Preview, previews};

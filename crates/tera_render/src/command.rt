@@ -231,5 +231,22 @@ fn with_settings<'a>(alloc: Global, command: Command<'a>) -> Result<Command<'a>,
             "Six texts with spaces between them [default: {% %} {{ }} {# #}]",
             ArgAction::Set,
         ))?
+        .arg(flag(
+            alloc,
+            "plain",
+            "Templates have the filters of the language alone, and none of the pack",
+        ))?
+        .arg(now(alloc)?)?
         .arg(flag(alloc, "quiet", "Tells nothing of progress").short('q'))
+}
+
+fn now<'a>(alloc: Global) -> Result<Arg<'a>, AllocError> {
+    option(
+        alloc,
+        "now",
+        "SECONDS",
+        "The time that now() tells, in seconds since 1970 [default: the host's]",
+        ArgAction::Set,
+    )
+    .conflicts_with("plain")
 }

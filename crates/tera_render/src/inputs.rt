@@ -1,5 +1,6 @@
 // All that is read: templates, files of data, the environment and standard input.
 use crate::errors::RunError;
+use crate::objects::RenderObjects;
 use crate::options::{DataFile, Options};
 use crate::progress::Progress;
 use crate::settings::{suffixes, tags, theme_prefixes};
@@ -10,7 +11,7 @@ use std::io::Read;
 use tera::ErrorKind;
 use tera_data::text_of;
 use tera_folders::{FileError, TextFile, read_bytes, read_folder};
-use tera_job::{Datum, Job, JobError, Made, Settings, Tags, make};
+use tera_job::{Datum, Job, JobError, Made, Settings, Tags, make_with};
 
 /// What a word of `-d` names: the bytes of a file.
 #[derive(Drop)]
@@ -56,10 +57,11 @@ impl<'a> Inputs<'a> {
         self.templates.iter().any(|file| file.name.as_str() == name)
     }
 
-    /// Makes what the options ask for.
+    /// Makes what the options ask for, with an engine that has these objects.
     pub fn make(
         &self,
         alloc: Global,
+        objects: RenderObjects,
         options: &Options<'_>,
         progress: &mut Progress<'_>,
     ) -> Result<Made, RunError> {
@@ -80,7 +82,7 @@ impl<'a> Inputs<'a> {
             floats: options.floats,
             task: options.task,
         };
-        match make(alloc, &job, progress) {
+        match make_with(alloc, objects, &job, progress) {
             Ok(made) => Ok(made),
             Err(error) => Err(self.run_error(alloc, error)),
         }

@@ -4,6 +4,7 @@
 mod command;
 mod errors;
 mod inputs;
+mod objects;
 mod options;
 mod outputs;
 mod progress;
@@ -50,8 +51,9 @@ fn run_options(rt: &HostRuntime, matches: &ArgMatches<'_>) -> Result<(), RunErro
 }
 
 fn make(rt: &HostRuntime, options: &Options<'_>, inputs: &Inputs<'_>) -> Result<Made, RunError> {
+    let objects = objects::new(rt, options)?;
     let mut progress = Progress::new(rt, options.quiet);
-    let made = inputs.make(rt.alloc(), options, &mut progress);
+    let made = inputs.make(rt.alloc(), objects, options, &mut progress);
     progress.end();
     made
 }

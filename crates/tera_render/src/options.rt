@@ -3,6 +3,7 @@ use crate::errors::RunError;
 use clap::ArgMatches;
 use std::alloc::{AllocError, Global};
 use tera_data::Floats;
+use tera_filters::Clock;
 use tera_job::{DataForm, Task};
 
 /// Suffixes of templates that escape where nothing else is said.
@@ -39,6 +40,10 @@ pub struct Options<'a> {
     pub suffixes: Vec<&'a str>,
     pub themes: Vec<&'a str>,
     pub delimiters: Option<&'a str>,
+    /// Whether templates have the filters of the language alone.
+    pub is_plain: bool,
+    /// The time that `now` tells, where it is not the host's.
+    pub clock: Option<Clock>,
     pub quiet: bool,
 }
 
@@ -57,6 +62,8 @@ impl<'a> Options<'a> {
             suffixes: suffixes_of(alloc, matches)?,
             themes: values_of(alloc, matches, "theme")?,
             delimiters: matches.get_str("delimiters"),
+            is_plain: matches.get_flag("plain"),
+            clock: clock_of(alloc, matches)?,
             quiet: matches.get_flag("quiet"),
         })
     }
@@ -99,6 +106,18 @@ fn floats_of(matches: &ArgMatches<'_>) -> Floats {
     match matches.get_str("floats") {
         Some("text") => Floats::Text,
         _ => Floats::Refuse,
+    }
+}
+
+fn clock_of(alloc: Global, matches: &ArgMatches<'_>) -> Result<Option<Clock>, RunError> {
+    let Some(word) = matches.get_str("now") else {
+        return Ok(None);
+    };
+    match word.parse::<i64>() {
+        Ok(seconds) => Ok(Some(Clock { seconds })),
+        Err(_) => Err(RunError::usage(format!(in alloc;
+            "--now: '{word}' is no number of seconds since 1970"
+        ))),
     }
 }
 

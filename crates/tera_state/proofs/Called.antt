@@ -1,8 +1,9 @@
 -- Calls with values of bytes.
-use Rattle.std.proofs.Common.{◌≡◌, ◌||◌, is_some, Bool, false, [], ◌∷◌, Option, Some, None, option_map, Result, Err, refl, sym, ap, ap₂, subst, ◌∙◌}
+use Rattle.std.proofs.Common.{◌≡◌, ◌||◌, is_some, Bool, false, List, [], ◌∷◌, Option, Some, None, option_map, Result, Err, refl, sym, ap, ap₂, subst, ◌∙◌}
 use Rattle.tera_errors.specs.Fault.{Fault, message}
 use Rattle.tera_errors.specs.Answer.{SeenError, Says, Tells, Gives}
 use Rattle.tera_values.specs.Alphabet.{plain}
+use Rattle.tera_values.specs.Escape.{escape_html}
 use Rattle.tera_errors.specs.Site.{Name, Text}
 use Rattle.tera_values.specs.Named.{Named, at_name}
 use Rattle.tera_values.specs.Val.{Val}
@@ -10,6 +11,7 @@ use Rattle.tera_built_ins.specs.declared.built_in_filter.BuiltInFilter.{BuiltInF
 use Rattle.tera_built_ins.specs.declared.built_in_test.BuiltInTest.{BuiltInTest}
 use Rattle.tera_built_ins.specs.declared.built_in_function.BuiltInFunction.{BuiltInFunction}
 use Rattle.tera_built_ins.specs.Escaping.{escape_or_html}
+use Rattle.tera_state.specs.Scope.{Around, Variables}
 use Rattle.tera_state.specs.Scopes.{around_of, variables_of}
 use Rattle.tera_state.specs.View.{View, NamedFilters, view_at, filters_left}
 use Rattle.tera_state.specs.Calling.{answer_of, all_bare, filter_called, test_called, function_called}
@@ -80,6 +82,17 @@ module _ {A O B : Type 0} (meaning : A → O) (n : Name) (here : Named A) (b : O
   finds-built_in r same absent =
       ap (option_map built_in) same ∙ sym (without-own b)
       ∙ ap (λ (o : Option O). own_or_built_in o b) (ap (option_map meaning) absent ∙ sym (at-each meaning n here))
+
+-- where objects have no box, texts are escaped by `escape_html`
+html : {E : Type 0} (kept : Option E) → escape_or_html (λ (e : E). escape_html) kept ≡ escape_html
+html None = refl
+html (Some e) = refl
+
+-- what such an object is lent, where the names that are taken are those that are kept
+pub lent-html : {E : Type 0} (around : Around) (variables : Variables) (autoescape : Bool) (kept : Option E) (lent taken : List Name) → lent ≡ taken
+    → view_at around variables autoescape escape_html (filters_left (Some lent)) ≡ view_at around variables autoescape (escape_or_html (λ (e : E). escape_html) kept) (filters_left (Some taken))
+lent-html around variables autoescape kept lent taken names =
+    ap₂ (λ (e : Text → Text) (ns : List Name). view_at around variables autoescape e (filters_left (Some ns))) (sym (html kept)) names
 
 -- what a call answers
 module _ {E F T G : Type 0} (escape : E → Text → Text) (filter : F → OwnFilter) (o : ObjectsOver E F T G) (call : ObjectCall) where

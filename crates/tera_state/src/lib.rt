@@ -32,8 +32,8 @@ pub use items::ForLoopIterator;
 pub use loops::ForLoop;
 pub use object::{Filter, Function, Test};
 pub use objects::{
-    BuiltInKind, CallerObjects, ObjectCall, ObjectTable, Objects, ObjectsOver, OwnFilters, Stored,
-    StoredFilter, StoredFunction, StoredTest,
+    BuiltInKind, CallerObjects, HtmlEscape, ObjectCall, ObjectTable, Objects, ObjectsOver,
+    OwnFilters, Stored, StoredFilter, StoredFunction, StoredTest, UnboxedObjects,
 };
 pub use open_loops::OpenLoops;
 pub use scopes::Scopes;

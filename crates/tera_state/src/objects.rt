@@ -10,6 +10,7 @@ pub mod object_call;
 mod safe_answers;
 pub mod stored;
 pub mod table;
+pub mod unboxed;
 
 pub use caller_objects::{CallerObjects, ObjectsOver};
 pub use filters::OwnFilters;
@@ -17,3 +18,4 @@ pub use interface::Objects;
 pub use object_call::ObjectCall;
 pub use stored::{Stored, StoredFilter, StoredFunction, StoredTest};
 pub use table::{BuiltInKind, ObjectTable};
+pub use unboxed::{HtmlEscape, UnboxedObjects};

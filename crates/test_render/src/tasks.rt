@@ -2,8 +2,8 @@
 use std::alloc::{AllocError, Global};
 use tera_data::Floats;
 use tera_job::{
-    DataForm, Datum, Job, JobError, Made, Settings, Tags, Task, Unwatched, furnish, make, pages,
-    previews, syntax_errors,
+    DataForm, Datum, Job, JobError, Made, Settings, Tags, Task, Unwatched, furnish, make,
+    make_with, pages, previews, syntax_errors,
 };
 
 const TEMPLATES: [(&str, &str); 6] = [
@@ -247,6 +247,29 @@ fn other_tags_are_read(rt: HostRuntime) {
         Ok(words) => assert!(rt; words.as_str() == "<n>{{ name }}"),
         Err(_) => assert!(rt; false, "no memory"),
     }
+}
+
+// The same job by an engine that is given its objects.
+fn is_made_with_objects(alloc: Global) -> bool {
+    let job = Job {
+        settings: SETTINGS,
+        templates: TEMPLATES.as_slice(),
+        given: DATA.as_slice(),
+        floats: Floats::Refuse,
+        task: Task::One { name: "a.html" },
+    };
+    match make_with(alloc, tera::CallerObjects::new(alloc), &job, &mut Unwatched) {
+        Ok(made) => match words_of_made(alloc, &made) {
+            Ok(words) => words.as_str() == "<T><b>&lt;n&gt;</b>",
+            Err(_) => false,
+        },
+        Err(_) => false,
+    }
+}
+
+#[test]
+fn objects_are_given(rt: HostRuntime) {
+    assert!(rt; is_made_with_objects(rt.alloc()));
 }
 
 #[test]

@@ -57,11 +57,54 @@ impl<'a> Stored<'a, BuiltInFilter, Box<dyn Filter>> {
     }
 }
 
+impl<'a, F: Filter> Stored<'a, BuiltInFilter, F> {
+    /// What it makes of the value.
+    pub fn call(&self, value: &Value, kwargs: Kwargs, state: &State<'_>) -> TeraResult<Value>
+        ensures { Gives (λ v. v) result (filter_answer F.meaning
+            (view_of (λ e. escaped e.now) state.now) self.now value.now kwargs) }
+    {
+        match self {
+            Stored::BuiltIn(filter) => {
+                filter.call(
+                    state.alloc(),
+                    value,
+                    &kwargs.as_arguments(),
+                    state.escaping(),
+                )
+            },
+            Stored::Own(filter) => filter.call(value, kwargs, state),
+        }
+    }
+
+    /// Whether a text that it answers is to be marked safe. What is built in marks its texts itself.
+    pub fn is_safe(&self) -> bool
+        ensures { result ≡ is_marked F.safe self.now }
+    {
+        match self {
+            Stored::BuiltIn(_) => false,
+            Stored::Own(filter) => filter.is_safe(),
+        }
+    }
+}
+
 impl<'a> Stored<'a, BuiltInTest, Box<dyn Test>> {
     /// Whether it holds of the value.
     pub fn call(&self, value: &Value, kwargs: Kwargs, state: &State<'_>) -> TeraResult<bool>
         ensures { Gives (λ b. b) result (test_answer
             (λ b. (⟦<dyn Test as Test>⟧ b.vtable).meaning b.value)
+            (view_of (λ e. escaped e.now) state.now) self.now value.now kwargs) }
+    {
+        match self {
+            Stored::BuiltIn(test) => test.call(state.alloc(), value, &kwargs.as_arguments()),
+            Stored::Own(test) => test.call(value, kwargs, state),
+        }
+    }
+}
+
+impl<'a, T: Test> Stored<'a, BuiltInTest, T> {
+    /// Whether it holds of the value.
+    pub fn call(&self, value: &Value, kwargs: Kwargs, state: &State<'_>) -> TeraResult<bool>
+        ensures { Gives (λ b. b) result (test_answer T.meaning
             (view_of (λ e. escaped e.now) state.now) self.now value.now kwargs) }
     {
         match self {
@@ -88,6 +131,29 @@ impl<'a> Stored<'a, BuiltInFunction, Box<dyn Function>> {
     pub fn is_safe(&self) -> bool
         ensures { result ≡ is_marked (λ b. (⟦<dyn Function as Function>⟧ b.vtable).safe b.value)
             self.now }
+    {
+        match self {
+            Stored::BuiltIn(_) => false,
+            Stored::Own(function) => function.is_safe(),
+        }
+    }
+}
+
+impl<'a, G: Function> Stored<'a, BuiltInFunction, G> {
+    /// What it makes of the arguments.
+    pub fn call(&self, kwargs: Kwargs, state: &State<'_>) -> TeraResult<Value>
+        ensures { Gives (λ v. v) result (function_answer G.meaning
+            (view_of (λ e. escaped e.now) state.now) self.now kwargs) }
+    {
+        match self {
+            Stored::BuiltIn(function) => function.call(state.alloc(), &kwargs.as_arguments()),
+            Stored::Own(function) => function.call(kwargs, state),
+        }
+    }
+
+    /// Whether a text that it answers is to be marked safe, as for a filter.
+    pub fn is_safe(&self) -> bool
+        ensures { result ≡ is_marked G.safe self.now }
     {
         match self {
             Stored::BuiltIn(_) => false,

@@ -1,6 +1,6 @@
 // Errors, and where they point.
 use std::alloc::Global;
-use tera::{Context, Error, ErrorKind, Span, Tera};
+use tera::{Context, Error, ErrorKind, Place, Span, Tera};
 
 fn is_no(error: &Error) -> bool {
     match error.kind() {
@@ -17,6 +17,7 @@ fn points_at(error: &Error, start: usize, end: usize) -> bool {
             span.start == start
                 && span.end == end
                 && report.file() == "__tera_one_off"
+                && report.place() == Some(Place { line: 1, column: 4 })
                 && !report.message().is_empty()
                 && report.notes().is_empty()
         }

@@ -1,0 +1,14 @@
+use Rattle.std.proofs.Common.{◌≡◌, ◌++◌, length, string_bytes}
+use denote.Text.{Utf8}
+use denote.Shadow.{shadow}
+use Rattle.tera_filters.specs.Tags.{compact}
+use Rattle.tera_filters.proofs.tags.without_gaps.Given as goal
+
+abbrev pub invariant-loop-before : goal.invariant-loop-before
+invariant-loop-before l = record {
+  is_text : shadow (Utf8 l.rest);
+  made : string_bytes l.kept ++ compact l.rest ≡ compact l.text;
+}
+
+abbrev pub decreases-loop-before : goal.decreases-loop-before
+decreases-loop-before l = length l.rest

@@ -1,0 +1,5 @@
+use Rattle.std.proofs.Common.{rules}
+use Rattle.tera_state.proofs.objects.unboxed.UnboxedObjectsObjects.has_filter.Goals as goal
+
+pub returns : goal.returns
+returns g c = search (rules, c.knows_filter.ensures)

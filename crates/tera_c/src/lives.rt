@@ -1,0 +1,39 @@
+// An engine behind a handle is made, and freed.
+ghost use Rattle.std.specs.Prelude.{◌≡◌, None};
+ghost use Rattle.tera_c.specs.Held.{IsMade};
+
+use crate::handle::Handle;
+use crate::options::EngineOptions;
+use crate::pack_renderer::{PackOnly, PackRenderer};
+use std::alloc::Global;
+use tera::{Objects, TeraResult};
+use tera_renderer::{Answer, Renderer};
+
+/// Makes an engine, in the place of one that is there. Where memory is refused, there is none.
+#[unsafe(no_mangle)]
+pub extern "C" fn tera_new(alloc: Global, engine: &mut Handle, options: &EngineOptions) -> Answer
+    ensures { IsMade ⟦<PackOnly as Objects>⟧.engine options.now engine.new.value result }
+{
+    drop(engine.open(alloc));
+    match new_box(alloc, options) {
+        Ok(made) => {
+            engine.shut(made);
+            Answer { status: 0, size: 0 }
+        }
+        Err(_) => Answer { status: 2, size: 0 },
+    }
+}
+
+/// Frees the engine, if there is one.
+#[unsafe(no_mangle)]
+pub extern "C" fn tera_free(alloc: Global, engine: &mut Handle)
+    ensures { engine.new.value ≡ None }
+{
+    drop(engine.open(alloc));
+}
+
+fn new_box(alloc: Global, options: &EngineOptions) -> TeraResult<Box<PackRenderer>> {
+    let objects = options.objects(alloc)?;
+    let renderer = Renderer::new(alloc, objects, options.floats())?;
+    Ok(Box::new(alloc, PackRenderer { renderer })?)
+}

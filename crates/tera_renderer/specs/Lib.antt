@@ -1,0 +1,4 @@
+pub mod Outcomes
+pub mod Held
+pub mod Calls
+pub mod Meanings

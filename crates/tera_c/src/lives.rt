@@ -1,6 +1,10 @@
 // An engine behind a handle is made, and freed.
-ghost use Rattle.std.specs.Prelude.{◌≡◌, None};
+ghost use Rattle.std.specs.Prelude.{◌≡◌, None, Ok};
+ghost use Rattle.tera.specs.Prelude.{Gives};
+ghost use Rattle.tera.specs.Registering.{new_registry_with};
 ghost use Rattle.tera_c.specs.Held.{IsMade};
+ghost use Rattle.tera_c.specs.Options.{engine_with, floats_with};
+ghost use Rattle.tera_renderer.specs.Held.{fresh, held_by};
 
 use crate::handle::Handle;
 use crate::options::EngineOptions;
@@ -32,7 +36,11 @@ pub extern "C" fn tera_free(alloc: Global, engine: &mut Handle)
     drop(engine.open(alloc));
 }
 
-fn new_box(alloc: Global, options: &EngineOptions) -> TeraResult<Box<PackRenderer>> {
+/// A new engine in its box.
+fn new_box(alloc: Global, options: &EngineOptions) -> TeraResult<Box<PackRenderer>>
+    ensures { Gives (λ b. held_by ⟦<PackOnly as Objects>⟧.engine b.value.renderer) result
+        (Ok (fresh (new_registry_with (engine_with options.now)) (floats_with options.now))) }
+{
     let objects = options.objects(alloc)?;
     let renderer = Renderer::new(alloc, objects, options.floats())?;
     Ok(Box::new(alloc, PackRenderer { renderer })?)

@@ -1,4 +1,5 @@
 // Renderings by a handle.
+ghost use Rattle.std.specs.Prelude.{◌≡◌, option_map};
 ghost use Rattle.tera_c.specs.Held.{ByHandle};
 ghost use Rattle.tera_c.specs.Options.{given_if, is_set};
 ghost use Rattle.tera_renderer.specs.Meanings.{RendersBlock, RendersComponent, RendersTemplate, RendersText};
@@ -98,7 +99,7 @@ pub extern "C" fn tera_render_component(
                 name,
                 arguments,
                 implicits,
-                body: if has_body == 0 { None } else { Some(body) },
+                body: body_of(has_body, body),
                 autoescape: autoescape != 0,
             };
             let answer = mine.renderer.render_component(component);
@@ -107,4 +108,11 @@ pub extern "C" fn tera_render_component(
         }
         None => NO_RENDERER,
     }
+}
+
+/// The body, if there is one.
+fn body_of(has_body: u32, body: &[u8]) -> Option<&[u8]>
+    ensures { option_map (λ b. b.now) result ≡ given_if has_body body.now }
+{
+    if has_body == 0 { None } else { Some(body) }
 }

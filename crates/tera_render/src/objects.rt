@@ -12,7 +12,10 @@ pub fn new(rt: &HostRuntime, options: &Options<'_>) -> Result<RenderObjects, Run
     if options.is_plain {
         return Ok(PackObjects::new(rt.alloc()));
     }
-    let clock = options.clock.or(host_clock(rt));
+    let clock = match options.clock {
+        Some(clock) => Some(clock),
+        None => host_clock(rt),
+    };
     match extra_objects(rt.alloc(), clock) {
         Ok(objects) => Ok(objects),
         Err(_) => Err(RunError::NoMemory),

@@ -1,5 +1,5 @@
-//! Tests of jobs over memory, and of folders: each public function of `tera_job` and `tera_folders` once with ample memory, and rows of
-//! what they make and refuse.
+//! Tests of jobs over memory, of folders and of renderers: each public function of `tera_job`, `tera_folders` and `tera_renderer` once with
+//! ample memory, and rows of what they make and refuse.
 #![tactic(auto)]
 
 #[cfg(test)]
@@ -10,5 +10,7 @@ mod failing;
 mod folders;
 #[cfg(test)]
 mod paths;
+#[cfg(test)]
+mod renderers;
 #[cfg(test)]
 mod tasks;

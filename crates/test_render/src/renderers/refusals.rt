@@ -1,5 +1,5 @@
 // What is refused, and what is told of it.
-use crate::room::{SiteRenderer, has_file, has_text, has_words, is_done, renderer};
+use crate::renderers::room::{SiteRenderer, has_file, has_text, has_words, is_done, renderer};
 use std::alloc::Global;
 use tera_renderer::{Answer, Report};
 

@@ -1,5 +1,5 @@
 // A text is rendered at once.
-use crate::room::is_done;
+use crate::renderers::room::is_done;
 use std::alloc::Global;
 use tera_data::Floats;
 use tera_filters::{NoObject, PackObjects};

@@ -1,5 +1,5 @@
 // What is added is rendered.
-use crate::room::{SiteRenderer, has_text, is_done, renderer};
+use crate::renderers::room::{SiteRenderer, has_text, is_done, renderer};
 use std::alloc::Global;
 use tera_renderer::rendering::ComponentBytes;
 use tera_renderer::settings::TagBytes;

@@ -3,31 +3,31 @@ ghost use Rattle.std.specs.Prelude.{Err, false};
 ghost use Rattle.tera_errors.specs.Prelude.{message};
 
 use tera_state::{Filter, Function, State, Test};
-use tera_values::{Kwargs, TeraResult, Value};
+use tera_values::{Error, Kwargs, TeraResult, Value};
 
-/// No object: there is no value of this type.
+/// Stands for the filters, tests or functions of a caller that has none. Each call of it is refused.
 #[derive(Clone, Copy)]
-pub enum NoObject {}
+pub struct NoObject;
 
 impl Filter for NoObject {
     ghost meaning = { λ o v given view. Err message };
 
     ghost safe = { λ o. false };
 
-    fn call(&self, _value: &Value, _kwargs: Kwargs, _state: &State<'_>) -> TeraResult<Value> {
-        match *self {}
+    fn call(&self, _value: &Value, _kwargs: Kwargs, state: &State<'_>) -> TeraResult<Value> {
+        Err(Error::message(state.alloc(), "the caller has no filters of its own"))
     }
 
     fn is_safe(&self) -> bool {
-        match *self {}
+        false
     }
 }
 
 impl Test for NoObject {
     ghost meaning = { λ o v given view. Err message };
 
-    fn call(&self, _value: &Value, _kwargs: Kwargs, _state: &State<'_>) -> TeraResult<bool> {
-        match *self {}
+    fn call(&self, _value: &Value, _kwargs: Kwargs, state: &State<'_>) -> TeraResult<bool> {
+        Err(Error::message(state.alloc(), "the caller has no tests of its own"))
     }
 }
 
@@ -36,11 +36,11 @@ impl Function for NoObject {
 
     ghost safe = { λ o. false };
 
-    fn call(&self, _kwargs: Kwargs, _state: &State<'_>) -> TeraResult<Value> {
-        match *self {}
+    fn call(&self, _kwargs: Kwargs, state: &State<'_>) -> TeraResult<Value> {
+        Err(Error::message(state.alloc(), "the caller has no functions of its own"))
     }
 
     fn is_safe(&self) -> bool {
-        match *self {}
+        false
     }
 }

@@ -36,7 +36,7 @@ pub(crate) fn answer_of(outcome: &TeraResult<CallOutput>) -> Answer
 }
 
 /// Copies a text to the start of the room, where that is large enough. What lies behind the text stays.
-pub(crate) fn copy_text(text: Option<&str>, room: &mut [u8]) -> Answer
+pub fn copy_text(text: Option<&str>, room: &mut [u8]) -> Answer
     ensures { (result, room.new) ≡ copied (lent_text text.entry) room.old }
 {
     let Some(text) = text else {

@@ -81,7 +81,8 @@ fn report_of(error: &Error) -> Option<&ReportError>
     }
 }
 
-fn file_of(error: &Error) -> Option<&str>
+/// The name of the template of which the error tells, if it tells of one.
+pub fn file_of(error: &Error) -> Option<&str>
     ensures { option_map (λ t. t.now) result ≡ file_in (site_of error.now) }
 {
     match report_of(error) {
@@ -90,7 +91,8 @@ fn file_of(error: &Error) -> Option<&str>
     }
 }
 
-fn report_of_error(error: &Error) -> Report
+/// What is told of the error, in numbers.
+pub fn report_of_error(error: &Error) -> Report
     ensures kind { result.kind ≡ kind_number error.now }
     ensures place { TellsPlace (site_of error.now) result }
 {

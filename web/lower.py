@@ -20,6 +20,8 @@ WITH_NUMBER = {0x02, 0x03, 0x04, 0x0C, 0x0D, 0x10, 0x20, 0x21, 0x22, 0x23, 0x24,
 WITH_BYTES = {0x43: 4, 0x44: 8}
 BRANCH_TABLE, CALL_INDIRECT, MEMORY_SIZE, MEMORY_GROW, EXTENDED = 0x0E, 0x11, 0x3F, 0x40, 0xFC
 LOADS = range(0x28, 0x36)
+# Instructions that put one value on the stack, and take none.
+PUSHES = {0x20, 0x23, I32_CONST, I64_CONST, *WITH_BYTES}
 # Stores by the type of the value, which lies over the address.
 STORES = {0x36: I32, 0x37: I64, 0x38: F32, 0x39: F64, 0x3A: I32, 0x3B: I32, 0x3C: I64, 0x3D: I64, 0x3E: I64}
 SATURATING, MEMORY_COPY, MEMORY_FILL = range(8), 10, 11
@@ -120,8 +122,16 @@ def extended(code, temporaries):
     sys.exit(f"lower.py: the instruction {EXTENDED:#x} {form} is not known")
 
 
-def lowered(code, temporaries):
-    """The next instruction, with the cuts that it wants."""
+def cut_before_value(kind, temporaries, instructions):
+    """Cuts the address of a store: in front of the instruction that puts the value over it, where one does; or under the value."""
+    if instructions and instructions[-1][0] in PUSHES:
+        instructions.insert(-1, WRAP)
+        return b""
+    return cut_under(kind, temporaries)
+
+
+def lowered(code, temporaries, instructions):
+    """The next instruction, with the cuts that it wants. Those in front of it are at hand."""
     form = code.byte()
     before = after = behind = b""
     if form in WITH_NUMBER:
@@ -136,7 +146,7 @@ def lowered(code, temporaries):
     elif form in LOADS:
         before, behind = WRAP, memory_argument(code)
     elif form in STORES:
-        before, behind = cut_under(STORES[form], temporaries), memory_argument(code)
+        before, behind = cut_before_value(STORES[form], temporaries, instructions), memory_argument(code)
     elif form == MEMORY_SIZE:
         behind, after = code.take(1), EXTEND_UNSIGNED
     elif form == MEMORY_GROW:
@@ -158,7 +168,7 @@ def function_body(data, parameters):
     temporaries = Temporaries(count)
     instructions = []
     while not code.is_done():
-        instructions.append(lowered(code, temporaries))
+        instructions.append(lowered(code, temporaries, instructions))
     groups += [number(1) + bytes([kind]) for kind in temporaries.types]
     return sized(many(groups) + b"".join(instructions))
 

@@ -45,12 +45,7 @@ pub fn answer_with(text: &str, template: usize, room: &mut [u8]) -> PageAnswer
 }
 
 /// The answer where an error was made, whose words go into the room.
-pub fn answer_of_error(
-    alloc: Global,
-    error: &Error,
-    template: usize,
-    room: &mut [u8],
-) -> PageAnswer
+pub fn answer_of_error(alloc: Global, error: &Error, template: usize, room: &mut [u8]) -> PageAnswer
     ensures kind { result.report.kind ≡ kind_number error.now }
     ensures place { TellsPlace (site_of error.now) result.report }
     ensures template { result.template ≡ template }

@@ -21,7 +21,10 @@ class Engine {
     start() {
         const worker = new Worker(this.source);
         this.worker = worker;
-        this.isReady = this.module.then(module => worker.postMessage(module));
+        this.isReady = this.module.then(module => new Promise(resolve => {
+            worker.addEventListener("message", resolve, { once: true });
+            worker.postMessage(module);
+        }));
     }
 
     // What the engine answers; or that it lacked `time`, and then its Worker is another from here on.

@@ -1,8 +1,21 @@
 "use strict";
 
-// The place in a text of JavaScript at which this byte of its UTF-8 begins.
-function placeOfByte(text, byte) {
+// Where in a text of JavaScript this byte of its UTF-8 begins.
+function indexOfByte(text, byte) {
     return new TextDecoder().decode(new TextEncoder().encode(text).slice(0, byte)).length;
+}
+
+// Where the column of a line begins; both are counted from 1 on, and columns in characters.
+function indexOfColumn(text, line, column) {
+    const lines = text.split("\n"), before = lines.slice(0, line - 1).join("\n").length + (line > 1 ? 1 : 0);
+    return before + Array.from(lines[line - 1] ?? "").slice(0, column - 1).join("").length;
+}
+
+// What of the text is marked for a fault: its span, or from its line and column on a word.
+function markOf(text, { start, end, line, column, word }) {
+    if (start !== undefined) return { start: indexOfByte(text, start), end: indexOfByte(text, end), word };
+    const index = indexOfColumn(text, line, column);
+    return { start: index, end: index + /^\w*/.exec(text.slice(index))[0].length, word };
 }
 
 // A text area over a sheet of the same text, on which faults are marked, with the numbers of the lines beside it.
@@ -26,14 +39,9 @@ class Editor {
         this.draw();
     }
 
-    // Marks what lies between these bytes, with a word at the end of its first line; or nothing.
+    // Marks the place of a fault, with its word at the end of the line; or nothing.
     markFault(fault) {
-        this.mark = null;
-        if (fault) {
-            const { value } = this.area;
-            const start = placeOfByte(value, fault.start);
-            this.mark = { start, end: Math.max(start, placeOfByte(value, fault.end)), word: fault.word };
-        }
+        this.mark = fault ? markOf(this.area.value, fault) : null;
         this.draw();
     }
 

@@ -215,7 +215,7 @@ class Page {
         const { text, fault, lacks, failed, took } = answer;
         const isMade = text !== undefined;
         this.answer = answer;
-        this.fault = fault?.file === undefined ? null : { ...fault, word: this.messageOf(fault) };
+        this.fault = fault ? this.placed(fault) : null;
         this.element("report").hidden = isMade;
         this.element("go").hidden = !this.fault;
         if (!isMade) {
@@ -232,10 +232,16 @@ class Page {
         this.markFault();
     }
 
-    // What is told of a fault, without its place and the notes.
-    messageOf({ file, line, column, words }) {
-        const [first] = words.split("\n"), place = `${file}:${line}:${column}: `;
-        return first.startsWith(place) ? first.slice(place.length) : first;
+    // The fault with its template, line and column, and what is told of it beside these, if its words begin with them. Where a batch does not go
+    // together, only a line of the words has a place.
+    placed(fault) {
+        for (const line of fault.words.split("\n")) {
+            const [, file, lineNumber, column, word] = /^(.+?):(\d+):(\d+): (.*)$/.exec(line) ?? [];
+            if (this.state.templates.some(({ name }) => name === file)) {
+                return { ...fault, file, line: Number(lineNumber), column: Number(column), word };
+            }
+        }
+        return fault.file === undefined ? null : { ...fault, word: fault.kind };
     }
 
     markFault() {
@@ -253,9 +259,10 @@ class Page {
     // The link.
 
     async writeLink() {
-        const hash = `#${await written(this.state)}`;
-        this.hash = hash;
-        history.replaceState(null, "", hash);
+        const { state } = this, turn = (this.links = (this.links ?? 0) + 1), letters = await written(state);
+        if (turn < this.links) return;
+        this.hash = `#${letters}`;
+        history.replaceState(null, "", this.hash);
     }
 
     async copyLink() {

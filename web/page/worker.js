@@ -1,7 +1,7 @@
 "use strict";
 
 // Runs in a Worker, which is made of this function's own text: a page that is opened from a file may start no other.
-// It is sent the compiled module once, and then questions, and answers each from an instance of its own.
+// It is sent the compiled module, tells that it is ready, and answers each question from an instance of its own.
 function engineWorker() {
     // What the engine's crate tera_page says: the numbers of subjects, of statuses and of kinds of error.
     const SUBJECTS = { template: 0, component: 1, variables: 2, components: 3 };
@@ -112,6 +112,7 @@ function engineWorker() {
     onmessage = ({ data }) => {
         if (data instanceof WebAssembly.Module) {
             module = data;
+            postMessage("ready");
             return;
         }
         const begun = performance.now();

@@ -13,6 +13,7 @@ class Page {
         this.engine = new Engine(LIMIT);
         this.editor = new Editor(this.element("template"), text => {
             this.state.templates[this.state.open].text = text;
+            this.fault = null;
             this.changed();
         });
         this.isAsking = this.isChanged = false;
@@ -61,6 +62,7 @@ class Page {
         const { title, ...rest } = structuredClone(state);
         this.state = rest;
         this.components = [];
+        this.fault = null;
         this.element("data").value = this.state.data;
         this.element("autoescape").checked = this.state.autoescape;
         this.element("decimals").checked = this.state.decimals;

@@ -191,14 +191,15 @@ async function testTabs(browser) {
 
 async function takePictures(browser) {
     const views = [["light", 1240, 800, "light", 0], ["dark", 1240, 800, "dark", 3], ["narrow", 400, 900, "light", 1], ["fault", 1240, 800, "light", 4]];
+    const wide = [];
     for (const [name, width, height, theme, example] of views) {
         await browser.look(width, height, theme);
         await open(browser);
         await browser.run(`await page.load(EXAMPLES[${example}]); return true;`);
+        if (await browser.run("return document.documentElement.scrollWidth > innerWidth;")) wide.push(name);
         await browser.picture(path.join(pictures, `${chosen}-${name}.png`));
     }
-    const wide = await browser.run("return document.documentElement.scrollWidth > innerWidth;");
-    tell("pictures", !wide, pictures);
+    tell("pictures, none wider than its window", wide.length === 0, wide.join(", ") || pictures);
 }
 
 async function testWithScripts(browser, scriptFolder) {

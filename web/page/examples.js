@@ -27,7 +27,7 @@ const EXAMPLES = [
                 text: `<!doctype html>
 <title>{% block title %}{% endblock title %}</title>
 <style>body { font: 16px sans-serif } .spring { font-weight: bold } td { padding-right: 1em }</style>
-<h1>{{ self_title | default(value="Tides") }}</h1>
+<h1>{% block heading %}Tides{% endblock heading %}</h1>
 {% block content %}{% endblock content %}
 {% include "footer.html" %}
 `,
@@ -84,7 +84,7 @@ That is {{ count }} line{{ count | pluralize }} in all.
     {%- if region.items %} first {{ region.items | first }}, last {{ region.items | last }}{% else %} none{% endif %}</li>
 {%- endfor %}
 </ul>
-<p>{{ sales | map(attribute="region") | sort | join(sep=", ") | upper }}</p>
+<p>{{ [sale.region for sale in sales if sale.items] | sort | join(sep=", ") | upper }}</p>
 <p>{{ size | filesizeformat }} of records, {% if size is odd %}odd{% else %}even{% endif %}.</p>
 `,
             },
@@ -141,7 +141,8 @@ That is {{ count }} line{{ count | pluralize }} in all.
                 name: "post.html",
                 text: `<article>
   <h2>{{ post.title | title }}</h2>
-  <p>By {{ post.author.name }}, {{ post.words + post.extra }} words</p>
+  <p>By {{ post.author.name }}</p>
+  <p>{{ post.words + post.extra }} words</p>
 </article>
 `,
             },

@@ -63,6 +63,8 @@ class Page {
         this.state = rest;
         this.components = [];
         this.fault = null;
+        this.element("examples").selectedIndex = EXAMPLES.findIndex(example => example.title === title);
+        this.element("output").textContent = this.element("preview").srcdoc = "";
         this.element("data").value = this.state.data;
         this.element("autoescape").checked = this.state.autoescape;
         this.element("decimals").checked = this.state.decimals;
@@ -84,7 +86,8 @@ class Page {
     }
 
     drawTabs() {
-        this.element("tabs").replaceChildren(...this.state.templates.map(({ name }, place) => {
+        const tabs = this.element("tabs"), isFocused = tabs.contains(document.activeElement);
+        tabs.replaceChildren(...this.state.templates.map(({ name }, place) => {
             const tab = document.createElement("button"), isOpen = place === this.state.open;
             Object.assign(tab, { type: "button", textContent: name, tabIndex: isOpen ? 0 : -1 });
             tab.setAttribute("role", "tab");
@@ -100,6 +103,7 @@ class Page {
             });
             return tab;
         }));
+        if (isFocused) tabs.children[this.state.open].focus();
     }
 
     stepThroughTabs({ key }) {
@@ -221,8 +225,10 @@ class Page {
         this.element("report").hidden = isMade;
         this.element("go").hidden = !this.fault;
         if (!isMade) {
+            const [message, ...words] = (fault ? fault.words : LACKS[lacks] ?? failed).split("\n");
             this.element("kind").textContent = fault ? fault.kind : lacks ? `Not enough ${lacks}` : "The engine failed";
-            this.element("words").textContent = fault ? fault.words : LACKS[lacks] ?? failed;
+            this.element("message").textContent = message;
+            this.element("words").textContent = words.join("\n");
         } else {
             this.element("output").textContent = text;
             this.element("preview").srcdoc = text;

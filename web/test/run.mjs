@@ -62,7 +62,7 @@ async function testExamples(browser) {
         return answers;`);
     for (const { title, text, fault, names } of answers) {
         const isFault = title === "A fault";
-        const isFine = isFault ? fault?.kind === "RenderingError" && fault.file === "post.html" && fault.line === 3 : text?.length > 100;
+        const isFine = isFault ? fault?.kind === "RenderingError" && fault.file === "post.html" && fault.line === 4 : text?.length > 100;
         tell(`example "${title}"`, isFine, isFine ? `variables ${names}` : inWords({ text, fault }));
     }
 }
@@ -106,10 +106,9 @@ async function testLimits(browser) {
     const doubled = await showText(browser, `{% set a = "ab" %}${"{% set a = a ~ a %}".repeat(40)}{{ a }}`);
     tell("a text that is doubled 40 times", doubled.lacks === "memory", inWords(doubled).slice(0, 200));
     tell("the page goes on after it", await isAlive(browser));
-    const deep = await showText(browser, "{{ a }}", { data: `{"a": ${"[".repeat(100)}${"]".repeat(100)}}` });
-    tell("data of 100 levels", deep.text !== undefined, inWords(deep).slice(0, 200));
-    await browser.run(`page.show({ lacks: "stack" }); return true;`);
-    tell("the page goes on after a stack that is too small", await isAlive(browser));
+    const deep = await showText(browser, "{% set a = [] %}{% for i in range(end=100000) %}{% set_global a = [a] %}{% endfor %}{{ a }}");
+    tell("a value of 100,000 levels", deep.lacks === "stack", inWords(deep).slice(0, 200));
+    tell("the page goes on after it", await isAlive(browser));
 }
 
 // Data with scripts, in a template that marks it safe, run nothing in the preview.
@@ -162,7 +161,7 @@ async function testKeyboard(browser) {
     }
     const wanted = ["examples", "link", "layout.html", "add", "name", "remove", "text", "data", "subject", "autoescape", "decimals", "output"];
     const missing = wanted.filter(id => !reached.has(id));
-    tell("each part is reached by the keyboard", missing.length === 0, missing.join(", "));
+    tell("each part is reached by the keyboard", missing.length === 0, missing.length ? `not ${missing.join(", ")}, but ${[...reached].join(", ")}` : "");
 }
 
 // Templates are added, renamed and removed.

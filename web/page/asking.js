@@ -1,5 +1,13 @@
 "use strict";
 
+// What base64 spells, which may have white space between its letters. Not every browser has the quick way.
+function bytesOf(packed) {
+    if (Uint8Array.fromBase64) return Uint8Array.fromBase64(packed);
+    const letters = atob(packed), bytes = new Uint8Array(letters.length);
+    for (let place = 0; place < letters.length; place++) bytes[place] = letters.charCodeAt(place);
+    return bytes;
+}
+
 // The engine, as the page asks it.
 class Engine {
     // A question that has no answer after so many milliseconds is given up.
@@ -12,10 +20,9 @@ class Engine {
     }
 
     // ENGINE is the module, packed by gzip and written in base64.
-    static async compile(packed) {
-        const bytes = Uint8Array.from(atob(packed), letter => letter.charCodeAt(0));
-        const stream = new Blob([bytes]).stream().pipeThrough(new DecompressionStream("gzip"));
-        return WebAssembly.compile(await new Response(stream).arrayBuffer());
+    static compile(packed) {
+        const stream = new Blob([bytesOf(packed)]).stream().pipeThrough(new DecompressionStream("gzip"));
+        return WebAssembly.compileStreaming(new Response(stream, { headers: { "Content-Type": "application/wasm" } }));
     }
 
     start() {

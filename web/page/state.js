@@ -17,8 +17,7 @@ async function written(state) {
 async function read(link) {
     if (!link.startsWith(STATE_FORM)) throw new Error("this link is of another form");
     const letters = link.slice(STATE_FORM.length).replaceAll("-", "+").replaceAll("_", "/");
-    const packed = Uint8Array.from(atob(letters), letter => letter.charCodeAt(0));
-    const bytes = await through(new DecompressionStream("deflate-raw"), packed);
+    const bytes = await through(new DecompressionStream("deflate-raw"), bytesOf(letters));
     return checked(JSON.parse(new TextDecoder("utf-8", { fatal: true }).decode(bytes)));
 }
 

@@ -13,7 +13,9 @@ const EXAMPLES = [
 <table>
   <tr><th>High water</th><th>Height</th></tr>
   {%- for tide in tides %}
-  <tr{% if tide.height >= 400 %} class="spring"{% endif %}><td>{{ tide.time }}</td><td>{{ tide.height }} cm</td></tr>
+  <tr{% if tide.height >= 400 %} class="spring"{% endif %}>
+    <td>{{ tide.time }}</td><td>{{ tide.height }} cm</td>
+  </tr>
   {%- else %}
   <tr><td>No tides today.</td></tr>
   {%- endfor %}

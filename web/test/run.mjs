@@ -189,12 +189,22 @@ async function testTabs(browser) {
 }
 
 async function takePictures(browser) {
-    const views = [["light", 1240, 800, "light", 0], ["dark", 1240, 800, "dark", 3], ["narrow", 400, 900, "light", 1], ["fault", 1240, 800, "light", 4]];
+    const views = [
+        ["light", 1240, 800, "light", 0], ["dark", 1240, 800, "dark", 3], ["narrow", 400, 900, "light", 1], ["fault", 1240, 800, "light", 4],
+        // The picture of the README: a fault, while the output of before is still there.
+        ["edited", 1240, 740, "light", 0],
+    ];
     const wide = [];
     for (const [name, width, height, theme, example] of views) {
         await browser.look(width, height, theme);
         await open(browser);
         await browser.run(`await page.load(EXAMPLES[${example}]); return true;`);
+        if (name === "edited") await browser.run(`
+            const area = document.getElementById("text");
+            area.value = area.value.replace("tide.height }}", "tide.heigth }}");
+            area.dispatchEvent(new Event("input"));
+            await page.ask();
+            return true;`);
         if (await browser.run("return document.documentElement.scrollWidth > innerWidth;")) wide.push(name);
         await browser.picture(path.join(pictures, `${chosen}-${name}.png`));
     }

@@ -1,6 +1,6 @@
-// Tests the page in one browser: node run.mjs BROWSER PAGE PICTURES SCRIPTS.., where BROWSER is chromium or firefox, PAGE the folder of the page, PICTURES a
-// folder for pictures, and each of SCRIPTS a folder of scripts with their replies. Prints a line for each test; what is wrong goes to standard
-// error, and then the status is 1.
+// Tests the page in one browser: node run.mjs BROWSER PAGE PICTURES TABLES SCRIPTS.., where BROWSER is chromium or firefox, PAGE the folder of the page,
+// PICTURES a folder for pictures, TABLES one of tests with tables, and each of SCRIPTS a folder of scripts with their replies. Prints a line for each
+// test; what is wrong goes to standard error, and then the status is 1.
 import fs from "node:fs";
 import path from "node:path";
 import process from "node:process";
@@ -8,9 +8,10 @@ import { pathToFileURL } from "node:url";
 import { Chromium, Firefox } from "./browsers.mjs";
 import { FAULTS } from "./faults.mjs";
 import { compareScripts } from "./scripts.mjs";
+import { compareTables } from "./tables.mjs";
 
 const MOST_MILLISECONDS = 500;
-const [chosen, folder, pictures, ...scripts] = process.argv.slice(2);
+const [chosen, folder, pictures, tables, ...scripts] = process.argv.slice(2);
 const Browser = { chromium: Chromium, firefox: Firefox }[chosen];
 const address = pathToFileURL(path.join(folder, "index.html")).href;
 let failed = false;
@@ -217,6 +218,11 @@ async function testWithScripts(browser, scriptFolder) {
     tell(what, told.scripts > 0 && told.others.length === 0, told.others.map(inWords).join("\n"));
 }
 
+async function testWithTables(browser) {
+    const told = await compareTables(tables, question => ask(browser, question));
+    tell(`${told.tables} tables of crates/test_engine: ${told.lines} lines`, told.lines > 0 && told.others.length === 0, told.others.map(inWords).join("\n"));
+}
+
 const browser = await Browser.start();
 try {
     for (const test of [testOpening, testExamples, testFaults, testMark, testLimits, testScripts, testLink, testKeyboard, testTabs, takePictures]) {
@@ -227,6 +233,7 @@ try {
         }
     }
     await open(browser);
+    await testWithTables(browser);
     for (const scriptFolder of scripts) await testWithScripts(browser, scriptFolder);
 } finally {
     await browser.end();

@@ -8,13 +8,12 @@ import process from "node:process";
 
 const pause = time => new Promise(resolve => setTimeout(resolve, time));
 
-// Commands that are numbered and answered over a socket, and the events between them.
+// Commands that are numbered and answered over a socket. What it tells besides is not heard.
 class Wire {
     constructor(socket) {
         this.socket = socket;
         this.count = 0;
         this.waiting = new Map();
-        this.listeners = [];
         socket.onmessage = ({ data }) => this.hear(JSON.parse(data));
     }
 
@@ -29,10 +28,7 @@ class Wire {
 
     hear(message) {
         const answer = this.waiting.get(message.id);
-        if (!answer) {
-            for (const listen of this.listeners) listen(message);
-            return;
-        }
+        if (!answer) return;
         this.waiting.delete(message.id);
         if (message.error) answer.reject(new Error(JSON.stringify(message)));
         else answer.resolve(message.result);
@@ -85,11 +81,6 @@ export class Chromium {
         browser.program = await started("chromium", words, /DevTools listening on ws:\/\/([^/]+)\//);
         const tabs = await (await fetch(`http://${browser.program.address}/json`)).json();
         browser.wire = await Wire.to(tabs.find(({ type }) => type === "page").webSocketDebuggerUrl);
-        browser.requests = [];
-        browser.wire.listeners.push(({ method, params }) => {
-            if (method === "Network.requestWillBeSent") browser.requests.push(params.request.url);
-        });
-        await browser.wire.call("Network.enable");
         await browser.wire.call("Page.enable");
         return browser;
     }
@@ -140,12 +131,7 @@ export class Firefox {
         const browser = new Firefox();
         browser.program = await started("firefox-esr", words, /WebDriver BiDi listening on ws:\/\/(\S+)/);
         browser.wire = await Wire.to(`ws://${browser.program.address}/session`);
-        browser.requests = [];
-        browser.wire.listeners.push(({ method, params }) => {
-            if (method === "network.beforeRequestSent") browser.requests.push(params.request.url);
-        });
         await browser.wire.call("session.new", { capabilities: {} });
-        await browser.wire.call("session.subscribe", { events: ["network.beforeRequestSent"] });
         const { contexts } = await browser.wire.call("browsingContext.getTree");
         browser.context = contexts[0].context;
         return browser;

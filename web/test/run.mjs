@@ -1,7 +1,7 @@
 // Tests the page in one browser: node run.mjs BROWSER PAGE PICTURES TABLES SCRIPTS.., where BROWSER is chromium or firefox, PAGE the folder of the page,
 // PICTURES a folder for pictures, TABLES one of tests with tables, and each of SCRIPTS a folder of scripts with their replies. Prints a line for each
 // test; what is wrong goes to standard error, and then the status is 1.
-import fs from "node:fs";
+import http from "node:http";
 import path from "node:path";
 import process from "node:process";
 import { pathToFileURL } from "node:url";
@@ -112,22 +112,35 @@ async function testLimits(browser) {
     tell("the page goes on after it", await isAlive(browser));
 }
 
-// Data with scripts, in a template that marks it safe, run nothing in the preview.
-async function testScripts(browser) {
-    const hostile = `<script>parent.postMessage("ran", "*")</script><img src="x" onerror="parent.postMessage('ran', '*')"><b>bold</b>`;
+// A server of this machine that counts what is asked of it.
+async function countingServer() {
+    const server = http.createServer((_, reply) => {
+        server.count += 1;
+        reply.end();
+    });
+    server.count = 0;
+    await new Promise(resolve => server.listen(0, "127.0.0.1", resolve));
+    server.place = `http://127.0.0.1:${server.address().port}`;
+    return server;
+}
+
+// Data with scripts, in a template that marks it safe, run nothing in the preview, and fetch nothing.
+async function testHostileData(browser) {
+    const server = await countingServer(), there = server.place;
+    const script = `<script>parent.postMessage("ran", "*")</script><img src="x" onerror="parent.postMessage('ran', '*')">`;
+    const fetching = `<link rel="stylesheet" href="${there}/a.css"><img src="${there}/b.png"><iframe src="${there}/c.html"></iframe>`
+        + `<meta http-equiv="refresh" content="0;url=${there}/d.html">`;
     await open(browser);
-    const requests = browser.requests.length;
     await browser.run(`addEventListener("message", ({ data }) => (window.ran = data)); return true;`);
-    const answer = await showText(browser, "{{ a | safe }}", { data: inWords({ a: `${hostile}<img src="http://192.0.2.1/x.png">` }) });
-    const told = await browser.run(`
-        await new Promise(resolve => setTimeout(resolve, 700));
-        return { ran: window.ran ?? null, sandbox: document.getElementById("preview").getAttribute("sandbox") };`);
-    const isFine = answer.text?.startsWith(hostile) && told.ran === null && told.sandbox === "";
-    tell("an unsafe script in the data does not run in the preview", isFine, isFine ? "" : inWords({ answer, told }));
-    const sent = browser.requests.slice(requests).filter(it => !/^(file|data|blob|about):/.test(it));
-    tell("no request goes anywhere", sent.length === 0, sent.join(" "));
-    const escaped = await showText(browser, "{{ a }}", { data: inWords({ a: hostile }) });
-    tell("the same data is escaped where it is not marked safe", escaped.text?.startsWith("&lt;script&gt;"), inWords(escaped).slice(0, 80));
+    const answer = await showText(browser, "{{ a | safe }}", { data: inWords({ a: script + fetching }) });
+    const ran = await browser.run(`
+        await new Promise(resolve => setTimeout(resolve, 1000));
+        return window.ran ?? null;`);
+    server.close();
+    tell("an unsafe script in the data does not run in the preview", answer.text?.startsWith(script) && ran === null, ran ?? "");
+    tell("the preview fetches nothing", server.count === 0, server.count ? `${server.count} requests` : "");
+    const escaped = await showText(browser, "{{ a }}", { data: inWords({ a: script }) });
+    tell("the same data is escaped where it is not marked safe", escaped.text?.startsWith("&lt;script&gt;"));
 }
 
 async function testLink(browser) {
@@ -225,7 +238,7 @@ async function testWithTables(browser) {
 
 const browser = await Browser.start();
 try {
-    for (const test of [testOpening, testExamples, testFaults, testMark, testLimits, testScripts, testLink, testKeyboard, testTabs, takePictures]) {
+    for (const test of [testOpening, testExamples, testFaults, testMark, testLimits, testHostileData, testLink, testKeyboard, testTabs, takePictures]) {
         try {
             await test(browser);
         } catch (error) {

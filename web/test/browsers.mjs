@@ -44,7 +44,7 @@ class Wire {
 // A program that listens at a port of its own choice, which it tells on standard error.
 async function started(program, words, pattern) {
     const home = fs.mkdtempSync(path.join(os.tmpdir(), "page-"));
-    const child = spawn(program, words(home), { stdio: ["ignore", "ignore", "pipe"], env: { ...process.env, HOME: home } });
+    const child = spawn(program, words(home), { stdio: ["ignore", "ignore", "pipe"], env: { ...process.env, HOME: home, TMPDIR: home } });
     const address = await new Promise((resolve, reject) => {
         let told = "";
         child.on("error", reject);

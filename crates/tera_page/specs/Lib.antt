@@ -1,0 +1,3 @@
+pub mod Templates
+pub mod Questions
+pub mod Answers

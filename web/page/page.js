@@ -1,0 +1,290 @@
+"use strict";
+
+// The page: what is written on the left is asked of the engine, and shown on the right.
+const LIMIT = 3000;
+const LACKS = {
+    time: `This took more than ${LIMIT / 1000} seconds, so it was ended. The page goes on with your next change.`,
+    memory: "This wants more memory than the page gives to a rendering, so it was ended. The page goes on.",
+    stack: "This is too deep for a page's stack, so it was ended. The page goes on.",
+};
+
+class Page {
+    constructor() {
+        this.engine = new Engine(LIMIT);
+        this.editor = new Editor(this.element("template"), text => {
+            this.state.templates[this.state.open].text = text;
+            this.fault = null;
+            this.changed();
+        });
+        this.isAsking = this.isChanged = false;
+        this.listen();
+    }
+
+    element(id) {
+        return document.getElementById(id);
+    }
+
+    listen() {
+        const on = (id, event, act) => this.element(id).addEventListener(event, act);
+        const change = act => event => {
+            act(event.target);
+            this.changed();
+        };
+        on("data", "input", change(({ value }) => (this.state.data = value)));
+        on("autoescape", "change", change(({ checked }) => (this.state.autoescape = checked)));
+        on("decimals", "change", change(({ checked }) => (this.state.decimals = checked)));
+        on("subject", "change", change(({ value }) => this.choose(value)));
+        on("name", "input", ({ target }) => this.rename(target.value));
+        on("add", "click", () => this.addTemplate());
+        on("remove", "click", () => this.removeTemplate());
+        on("tabs", "keydown", event => this.stepThroughTabs(event));
+        on("go", "click", () => this.goToFault());
+        on("link", "click", () => this.copyLink());
+        on("examples", "change", ({ target }) => this.load(EXAMPLES[Number(target.value)]));
+        this.element("examples").replaceChildren(...EXAMPLES.map(({ title }, place) => new Option(title, place)));
+        addEventListener("hashchange", () => location.hash !== this.hash && this.open());
+    }
+
+    // Begins with the state in the link, or with the first example.
+    async open() {
+        if (location.hash.length > 1) {
+            try {
+                await this.load(await read(location.hash.slice(1)));
+                return;
+            } catch (error) {
+                this.element("name-trouble").textContent = `The link cannot be read: ${error.message}.`;
+            }
+        }
+        await this.load(EXAMPLES[0]);
+    }
+
+    async load(state) {
+        const { title, ...rest } = structuredClone(state);
+        this.state = rest;
+        this.components = [];
+        this.fault = null;
+        this.element("examples").selectedIndex = EXAMPLES.findIndex(example => example.title === title);
+        this.element("output").textContent = this.element("preview").srcdoc = "";
+        this.element("data").value = this.state.data;
+        this.element("autoescape").checked = this.state.autoescape;
+        this.element("decimals").checked = this.state.decimals;
+        this.openTemplate(this.state.open);
+        await this.changed();
+    }
+
+    // The templates.
+
+    openTemplate(place) {
+        this.state.open = place;
+        const { name, text } = this.state.templates[place];
+        this.editor.show(text);
+        this.element("name").value = name;
+        this.element("name-trouble").textContent = "";
+        this.element("remove").disabled = this.state.templates.length === 1;
+        this.drawTabs();
+        this.markFault();
+    }
+
+    drawTabs() {
+        const tabs = this.element("tabs"), isFocused = tabs.contains(document.activeElement);
+        tabs.replaceChildren(...this.state.templates.map(({ name }, place) => {
+            const tab = document.createElement("button"), isOpen = place === this.state.open;
+            Object.assign(tab, { type: "button", textContent: name, tabIndex: isOpen ? 0 : -1 });
+            tab.setAttribute("role", "tab");
+            tab.setAttribute("aria-selected", isOpen);
+            tab.setAttribute("aria-controls", "template");
+            if (this.fault?.file === name) {
+                tab.className = "faulty";
+                tab.title = this.fault.word;
+            }
+            tab.addEventListener("click", () => {
+                this.openTemplate(place);
+                this.ask();
+            });
+            return tab;
+        }));
+        if (isFocused) tabs.children[this.state.open].focus();
+    }
+
+    stepThroughTabs({ key }) {
+        const step = { ArrowLeft: -1, ArrowRight: 1 }[key];
+        if (!step) return;
+        const count = this.state.templates.length;
+        this.openTemplate((this.state.open + step + count) % count);
+        this.element("tabs").children[this.state.open].focus();
+        this.ask();
+    }
+
+    rename(name) {
+        const { templates, open } = this.state;
+        const isTaken = templates.some((other, place) => place !== open && other.name === name);
+        this.element("name-trouble").textContent = isTaken ? "Another template has this name." : name ? "" : "A template wants a name.";
+        if (isTaken || !name) return;
+        if (this.state.subject === "template" && this.state.name === templates[open].name) this.state.name = name;
+        templates[open].name = name;
+        this.drawTabs();
+        this.changed();
+    }
+
+    addTemplate() {
+        const names = this.state.templates.map(({ name }) => name);
+        let number = names.length + 1;
+        while (names.includes(`template-${number}.html`)) number++;
+        this.state.templates.push({ name: `template-${number}.html`, text: "" });
+        this.openTemplate(names.length);
+        this.element("name").select();
+        this.element("name").focus();
+        this.changed();
+    }
+
+    removeTemplate() {
+        const [{ name }] = this.state.templates.splice(this.state.open, 1);
+        if (this.state.name === name) this.state.name = this.state.templates[0].name;
+        this.openTemplate(Math.max(0, this.state.open - 1));
+        this.changed();
+    }
+
+    // What is rendered: a template, or a component.
+
+    choose(value) {
+        const [subject, ...name] = value.split(" ");
+        Object.assign(this.state, { subject, name: name.join(" ") });
+    }
+
+    drawSubjects() {
+        const group = (label, subject, names) => {
+            const options = document.createElement("optgroup");
+            options.label = label;
+            options.append(...names.map(name => new Option(name, `${subject} ${name}`)));
+            return options;
+        };
+        const { subject, name } = this.state, chosen = `${subject} ${name}`, select = this.element("subject");
+        const names = this.state.templates.map(template => template.name);
+        const components = subject === "component" && !this.components.includes(name) ? [...this.components, name] : this.components;
+        select.replaceChildren(group("Templates", "template", names));
+        if (components.length > 0) select.append(group("Components, with the data as arguments", "component", components));
+        select.value = chosen;
+    }
+
+    // Asking.
+
+    changed() {
+        this.drawSubjects();
+        this.writeLink();
+        return this.ask();
+    }
+
+    // Asks about what stands there now; while that goes on, once more at its end.
+    ask() {
+        this.isChanged = true;
+        this.isAsking ||= this.askUntilSettled();
+        return this.isAsking;
+    }
+
+    async askUntilSettled() {
+        while (this.isChanged) {
+            this.isChanged = false;
+            this.element("status").textContent = "rendering";
+            await this.askAll();
+        }
+        this.isAsking = false;
+    }
+
+    async askAll() {
+        const { templates, data, subject, name, autoescape, decimals, open } = this.state;
+        const common = { templates, autoescape, decimals, seconds: Math.floor(Date.now() / 1000), json: "", name: "" };
+        const names = async question => {
+            const answer = await this.engine.ask({ ...common, ...question });
+            return { ...answer, names: answer.text?.split("\n").filter(line => line) };
+        };
+        const variables = await names({ subject: "variables", name: templates[open].name });
+        // Where the templates alone take too long, so would any further question about them.
+        if (variables.lacks === "time") return this.show(variables);
+        const components = await names({ subject: "components" });
+        this.showNames(variables.names, components.names);
+        this.show(await this.engine.ask({ ...common, subject, name, json: data }));
+    }
+
+    // Showing.
+
+    showNames(variables, components) {
+        const told = names => (names ? names.join(", ") || "none" : "not known while there is a fault");
+        this.element("variables").textContent = told(variables);
+        this.element("components").textContent = told(components);
+        if (components) {
+            this.components = components;
+            this.drawSubjects();
+        }
+    }
+
+    show(answer) {
+        const { text, fault, lacks, failed, took } = answer;
+        const isMade = text !== undefined;
+        this.answer = answer;
+        this.fault = fault ? this.placed(fault) : null;
+        this.element("report").hidden = isMade;
+        this.element("go").hidden = !this.fault;
+        if (!isMade) {
+            const [message, ...words] = (fault ? fault.words : LACKS[lacks] ?? failed).split("\n");
+            this.element("kind").textContent = fault ? fault.kind : lacks ? `Not enough ${lacks}` : "The engine failed";
+            this.element("message").textContent = message;
+            this.element("words").textContent = words.join("\n");
+        } else {
+            this.element("output").textContent = text;
+            this.element("preview").srcdoc = text;
+        }
+        for (const id of ["output", "preview"]) this.element(id).classList.toggle("stale", !isMade);
+        this.element("status").textContent = isMade ? `${took.toFixed(1)} ms` : "no output";
+        this.firstShown ??= performance.now();
+        this.drawTabs();
+        this.markFault();
+    }
+
+    // The fault with its template, line and column, and what is told of it beside these, if its words begin with them. Where a batch does not go
+    // together, only a line of the words has a place.
+    placed(fault) {
+        for (const line of fault.words.split("\n")) {
+            const [, file, lineNumber, column, word] = /^(.+?):(\d+):(\d+): (.*)$/.exec(line) ?? [];
+            if (this.state.templates.some(({ name }) => name === file)) {
+                return { ...fault, file, line: Number(lineNumber), column: Number(column), word };
+            }
+        }
+        return fault.file === undefined ? null : { ...fault, word: fault.kind };
+    }
+
+    markFault() {
+        const isHere = this.fault && this.state.templates[this.state.open].name === this.fault.file;
+        this.editor.markFault(isHere ? this.fault : null);
+    }
+
+    goToFault() {
+        const place = this.state.templates.findIndex(({ name }) => name === this.fault.file);
+        if (place < 0) return;
+        this.openTemplate(place);
+        this.editor.goToMark();
+    }
+
+    // The link.
+
+    async writeLink() {
+        const { state } = this, turn = (this.links = (this.links ?? 0) + 1), letters = await written(state);
+        if (turn < this.links) return;
+        this.hash = `#${letters}`;
+        history.replaceState(null, "", this.hash);
+    }
+
+    async copyLink() {
+        const button = this.element("link");
+        await this.writeLink();
+        try {
+            await navigator.clipboard.writeText(location.href);
+            button.textContent = "Copied";
+        } catch {
+            button.textContent = "Copy it from the address";
+        }
+        setTimeout(() => (button.textContent = "Copy link"), 2000);
+    }
+}
+
+const page = new Page();
+page.open();

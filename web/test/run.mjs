@@ -1,0 +1,254 @@
+// Tests the page in one browser: node run.mjs BROWSER PAGE PICTURES TABLES SCRIPTS.., where BROWSER is chromium or firefox, PAGE the folder of the page,
+// PICTURES a folder for pictures, TABLES one of tests with tables, and each of SCRIPTS a folder of scripts with their replies. Prints a line for each
+// test; what is wrong goes to standard error, and then the status is 1.
+import http from "node:http";
+import path from "node:path";
+import process from "node:process";
+import { pathToFileURL } from "node:url";
+import { Chromium, Firefox } from "./browsers.mjs";
+import { FAULTS } from "./faults.mjs";
+import { compareScripts } from "./scripts.mjs";
+import { compareTables } from "./tables.mjs";
+
+const MOST_MILLISECONDS = 500;
+const [chosen, folder, pictures, tables, ...scripts] = process.argv.slice(2);
+const Browser = { chromium: Chromium, firefox: Firefox }[chosen];
+const address = pathToFileURL(path.join(folder, "index.html")).href;
+let failed = false;
+
+function tell(what, isFine, more = "") {
+    if (isFine) {
+        console.log(`${Browser.name}: ${what}: passed${more && ` (${more})`}`);
+        return;
+    }
+    failed = true;
+    console.error(`${Browser.name}: ${what}: failed${more && `: ${more}`}`);
+}
+
+const inWords = value => JSON.stringify(value);
+const isShown = "while (typeof page === 'undefined' || !page.answer) await new Promise(resolve => setTimeout(resolve, 5));";
+
+// Opens the page anew, and waits until it shows something.
+async function open(browser, link = "") {
+    await browser.open(address + link);
+    await browser.run(`${isShown} return true;`);
+}
+
+const ask = (browser, question) => browser.run(`return page.engine.ask(${inWords(question)});`);
+
+// Lets the page show a state, made of the first example's.
+const show = (browser, state) => browser.run(`
+    await page.load({ ...EXAMPLES[0], open: 0, subject: "template", name: "page.html", data: "{}", ...${inWords(state)} });
+    return page.answer;`);
+const showText = (browser, text, more = {}) => show(browser, { templates: [{ name: "page.html", text }], ...more });
+const isAlive = async browser => (await showText(browser, "{{ 6 * 7 }}")).text === "42";
+
+async function testOpening(browser) {
+    const times = [];
+    for (let turn = 0; turn < 3; turn++) {
+        await open(browser);
+        times.push(await browser.run("return page.firstShown;"));
+    }
+    const least = Math.round(Math.min(...times));
+    tell(`first rendering within ${MOST_MILLISECONDS} ms`, least <= MOST_MILLISECONDS, `${times.map(Math.round).join(", ")} ms`);
+}
+
+async function testExamples(browser) {
+    const answers = await browser.run(`
+        const answers = [];
+        for (const example of EXAMPLES) {
+            await page.load(example);
+            answers.push({ title: example.title, ...page.answer, names: document.getElementById("variables").textContent });
+        }
+        return answers;`);
+    for (const { title, text, fault, names } of answers) {
+        const isFault = title === "A fault";
+        const isFine = isFault ? fault?.kind === "RenderingError" && fault.file === "post.html" && fault.line === 4 : text?.length > 100;
+        tell(`example "${title}"`, isFine, isFine ? `variables ${names}` : inWords({ text, fault }));
+    }
+}
+
+async function testFaults(browser) {
+    const others = [];
+    for (const { templates, kind, place, name = "page.html", subject = "template", json = '{"list": [], "a": 1}' } of FAULTS) {
+        const question = { templates, subject, name, json, autoescape: true, decimals: false, seconds: 0 };
+        const { fault, ...rest } = await ask(browser, question);
+        const [line, column] = place;
+        if (fault?.kind !== kind || fault.line !== line || fault.column !== column || !fault.words) {
+            others.push({ texts: templates.map(({ text }) => text), wanted: [kind, line, column], fault, rest });
+        }
+    }
+    tell(`${FAULTS.length} faults`, others.length === 0, others.map(inWords).join("\n"));
+}
+
+// A fault is marked at its place, and the button leads there.
+async function testMark(browser) {
+    await showText(browser, "Dear\n{{ nobody }},\nbye", { templates: [
+        { name: "other.html", text: "a" }, { name: "page.html", text: "Dear\nÜ {{ nobody }},\nbye" },
+    ] });
+    const told = await browser.run(`
+        document.getElementById("go").click();
+        const area = document.getElementById("text");
+        return {
+            tab: document.querySelector("[aria-selected=true]").textContent, mark: document.querySelector("mark").textContent,
+            chosen: area.value.slice(area.selectionStart, area.selectionEnd), line: document.querySelector(".numbers .faulty").textContent.trim(),
+            note: document.querySelector(".sheet span").textContent, focus: document.activeElement.id,
+        };`);
+    const isFine = told.tab === "page.html" && told.mark === "nobody" && told.chosen === "nobody" && told.line === "2" && told.focus === "text"
+        && told.note.includes("nobody");
+    tell("a fault is marked at its place", isFine, isFine ? told.note.trim() : inWords(told));
+}
+
+async function testLimits(browser) {
+    const loops = "{% for i in range(end=100000) %}{% for j in range(end=100000) %}{% endfor %}{% endfor %}";
+    const begun = Date.now(), late = await showText(browser, loops), took = Date.now() - begun;
+    tell("two nested loops of 100,000 are ended", late.lacks === "time" && took < 12000, inWords({ lacks: late.lacks, took }));
+    tell("the page goes on after them", await isAlive(browser));
+    const doubled = await showText(browser, `{% set a = "ab" %}${"{% set a = a ~ a %}".repeat(40)}{{ a }}`);
+    tell("a text that is doubled 40 times", doubled.lacks === "memory", inWords(doubled).slice(0, 200));
+    tell("the page goes on after it", await isAlive(browser));
+    const deep = await showText(browser, "{% set a = [] %}{% for i in range(end=100000) %}{% set_global a = [a] %}{% endfor %}{{ a }}");
+    tell("a value of 100,000 levels", deep.lacks === "stack", inWords(deep).slice(0, 200));
+    tell("the page goes on after it", await isAlive(browser));
+}
+
+// A server of this machine that counts what is asked of it.
+async function countingServer() {
+    const server = http.createServer((_, reply) => {
+        server.count += 1;
+        reply.end();
+    });
+    server.count = 0;
+    await new Promise(resolve => server.listen(0, "127.0.0.1", resolve));
+    server.place = `http://127.0.0.1:${server.address().port}`;
+    return server;
+}
+
+// Data with scripts, in a template that marks it safe, run nothing in the preview, and fetch nothing.
+async function testHostileData(browser) {
+    const server = await countingServer(), there = server.place;
+    const script = `<script>parent.postMessage("ran", "*")</script><img src="x" onerror="parent.postMessage('ran', '*')">`;
+    const fetching = `<link rel="stylesheet" href="${there}/a.css"><img src="${there}/b.png"><iframe src="${there}/c.html"></iframe>`
+        + `<meta http-equiv="refresh" content="0;url=${there}/d.html">`;
+    await open(browser);
+    await browser.run(`addEventListener("message", ({ data }) => (window.ran = data)); return true;`);
+    const answer = await showText(browser, "{{ a | safe }}", { data: inWords({ a: script + fetching }) });
+    const ran = await browser.run(`
+        await new Promise(resolve => setTimeout(resolve, 1000));
+        return window.ran ?? null;`);
+    server.close();
+    tell("an unsafe script in the data does not run in the preview", answer.text?.startsWith(script) && ran === null, ran ?? "");
+    tell("the preview fetches nothing", server.count === 0, server.count ? `${server.count} requests` : "");
+    const escaped = await showText(browser, "{{ a }}", { data: inWords({ a: script }) });
+    tell("the same data is escaped where it is not marked safe", escaped.text?.startsWith("&lt;script&gt;"));
+}
+
+async function testLink(browser) {
+    const text = `{% component Hello(name: string) %}Hello, {{ name }}!{% endcomponent %}`;
+    const state = { templates: [{ name: "a b.html", text: "Ünïcode 東京" }, { name: "hello.html", text }], open: 1, subject: "component", name: "Hello" };
+    const before = await show(browser, { ...state, data: '{"name": "<Ines>"}', autoescape: true });
+    const link = await browser.run("await page.writeLink(); return location.hash;");
+    await open(browser, link);
+    const told = await browser.run(`
+        return { answer: page.answer.text, open: page.state.open, names: page.state.templates.map(({ name }) => name), text: page.state.templates[0].text,
+            subject: document.getElementById("subject").value };`);
+    const isFine = before.text === "Hello, &lt;Ines&gt;!" && told.answer === before.text && told.open === 1 && told.names[0] === "a b.html"
+        && told.text === "Ünïcode 東京" && told.subject === "component Hello";
+    tell("the link of a state, opened anew", isFine, isFine ? `${link.length} letters` : inWords({ before, told }));
+    await open(browser, "#1.nonsense");
+    tell("a link that cannot be read", await isAlive(browser));
+}
+
+// Each part of the page is reached by the keyboard, and the arrows step through the tabs.
+async function testKeyboard(browser) {
+    await open(browser);
+    await browser.run("document.body.focus(); return true;");
+    const reached = new Set();
+    for (let turn = 0; turn < 24; turn++) {
+        await browser.press("Tab");
+        const id = await browser.run(`const it = document.activeElement; return it.id || it.getAttribute("role") || it.tagName;`);
+        reached.add(id);
+        if (id === "tab") {
+            await browser.press("ArrowRight");
+            reached.add(await browser.run(`return document.activeElement.textContent;`));
+        }
+    }
+    const wanted = ["examples", "link", "layout.html", "add", "name", "remove", "text", "data", "subject", "autoescape", "decimals", "output"];
+    const missing = wanted.filter(id => !reached.has(id));
+    tell("each part is reached by the keyboard", missing.length === 0, missing.length ? `not ${missing.join(", ")}, but ${[...reached].join(", ")}` : "");
+}
+
+// Templates are added, renamed and removed.
+async function testTabs(browser) {
+    await open(browser);
+    const told = await browser.run(`
+        const element = id => document.getElementById(id), type = (id, value) => {
+            element(id).value = value;
+            element(id).dispatchEvent(new Event("input"));
+        };
+        element("add").click();
+        type("name", "layout.html");
+        const trouble = element("name-trouble").textContent;
+        type("name", "new.txt");
+        type("text", "{{ harbour.name }}");
+        element("subject").value = "template new.txt";
+        element("subject").dispatchEvent(new Event("change"));
+        await page.ask();
+        const added = page.answer.text;
+        element("remove").click();
+        await page.ask();
+        return { trouble, added, tabs: element("tabs").textContent, subject: element("subject").value, fault: page.answer.fault ?? null };`);
+    const isFine = told.trouble && told.added === "Oslo & Drammen" && !told.tabs.includes("new.txt") && told.subject === "template page.html" && !told.fault;
+    tell("templates are added, named and removed", isFine, isFine ? "" : inWords(told));
+}
+
+async function takePictures(browser) {
+    const views = [
+        ["light", 1240, 800, "light", 0], ["dark", 1240, 800, "dark", 3], ["narrow", 400, 900, "light", 1], ["fault", 1240, 800, "light", 4],
+        // The picture of the README: a fault, while the output of before is still there.
+        ["edited", 1240, 740, "light", 0],
+    ];
+    const wide = [];
+    for (const [name, width, height, theme, example] of views) {
+        await browser.look(width, height, theme);
+        await open(browser);
+        await browser.run(`await page.load(EXAMPLES[${example}]); return true;`);
+        if (name === "edited") await browser.run(`
+            const area = document.getElementById("text");
+            area.value = area.value.replace("tide.height }}", "tide.heigth }}");
+            area.dispatchEvent(new Event("input"));
+            await page.ask();
+            return true;`);
+        if (await browser.run("return document.documentElement.scrollWidth > innerWidth;")) wide.push(name);
+        await browser.picture(path.join(pictures, `${chosen}-${name}.png`));
+    }
+    tell("pictures, none wider than its window", wide.length === 0, wide.join(", ") || pictures);
+}
+
+async function testWithScripts(browser, scriptFolder) {
+    const told = await compareScripts(scriptFolder, question => ask(browser, question));
+    const what = `${path.relative(process.cwd(), scriptFolder)}: ${told.scripts} scripts, ${told.whole} of them whole, with ${told.replies} replies`;
+    tell(what, told.scripts > 0 && told.others.length === 0, told.others.map(inWords).join("\n"));
+}
+
+async function testWithTables(browser) {
+    const told = await compareTables(tables, question => ask(browser, question));
+    tell(`${told.tables} tables of crates/test_engine: ${told.lines} lines`, told.lines > 0 && told.others.length === 0, told.others.map(inWords).join("\n"));
+}
+
+const browser = await Browser.start();
+try {
+    for (const test of [testOpening, testExamples, testFaults, testMark, testLimits, testHostileData, testLink, testKeyboard, testTabs, takePictures]) {
+        try {
+            await test(browser);
+        } catch (error) {
+            tell(test.name, false, error.stack);
+        }
+    }
+    await open(browser);
+    await testWithTables(browser);
+    for (const scriptFolder of scripts) await testWithScripts(browser, scriptFolder);
+} finally {
+    await browser.end();
+}
+process.exit(failed ? 1 : 0);

@@ -1,5 +1,5 @@
 -- What the numbers of a caller in C say.
-use Rattle.std.specs.Prelude.{ℕ, zero, suc, Bool, true, false, not, cond, ◌==◌, Option, None, Some}
+use Rattle.std.specs.Prelude.{ℕ, Bool, not, cond, ◌==◌, Option, None, Some}
 use Rattle.tera.specs.Site.{Text}
 use Rattle.tera.specs.Engine.{Engine, standard_engine}
 use Rattle.tera.specs.Delimiters.{Delims}

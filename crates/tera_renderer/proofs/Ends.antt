@@ -1,5 +1,5 @@
 -- How calls end, from what their parts answer and what they leave.
-use Rattle.std.proofs.Common.{◌≡◌, ℕ, List, [], ◌∷◌, Result, Ok, Err, Some, None, refl, sym, ap, subst}
+use Rattle.std.proofs.Common.{◌≡◌, ℕ, List, Result, Ok, Err, Some, None, refl, sym, ap, subst}
 use Rattle.std.specs.Prelude.{String, string_bytes, Vec, map}
 use Rattle.std.specs.Global.{Global}
 use Rattle.tera.specs.Site.{Text}
@@ -9,7 +9,7 @@ use Rattle.tera.specs.Batch.{ConfiguresOneOf}
 use Rattle.tera.specs.MeaningRegistry.{Registry}
 use Rattle.tera_renderer.specs.Held.{Held}
 use Rattle.tera_renderer.specs.Outcomes.{Outcome, copied, copied_or_told, told, texts_in, done, one_text, all_names}
-use Rattle.tera_renderer.specs.Calls.{AreTexts, IsMessage, Reads, OneText, Makes, Changes, Configured, Settles, Keeps, Waits, Put, Puts, MakesOnce}
+use Rattle.tera_renderer.specs.Calls.{IsMessage, Reads, OneText, Makes, Changes, Configured, Settles, Keeps, Waits, Put, Puts, MakesOnce}
 use Rattle.tera_renderer.specs.declared.answer.Answer.{Answer}
 
 -- the same with this outcome

@@ -1,5 +1,5 @@
 -- How a renderer's calls end.
-use Rattle.std.specs.Prelude.{◌≡◌, ℕ, List, [], ◌∷◌, map, string_bytes, IsUtf8, Option, Some, None, Result, Ok, Err}
+use Rattle.std.specs.Prelude.{◌≡◌, ℕ, List, [], ◌∷◌, IsUtf8, None, Result, Ok, Err}
 use Rattle.tera.specs.Site.{Text}
 use Rattle.tera.specs.Fault.{Fault, message}
 use Rattle.tera.specs.Answer.{SeenError, SaysOneOf, GivesOneOf, Tells}

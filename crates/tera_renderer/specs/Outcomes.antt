@@ -3,7 +3,7 @@ use Rattle.std.specs.Prelude.{◌≡◌, ℕ, ◌++◌, nat_lt, cond, List, [], 
 use Rattle.std.specs.Global.{Global}
 use Rattle.std.specs.List.{slice_get}
 use Rattle.tera.specs.Site.{Site, Text}
-use Rattle.tera.specs.Fault.{Fault, syntax_error, message, rendering_error, circular_extend, circular_include, missing_parent, template_not_found, component_not_found, invalid_argument, missing_argument}
+use Rattle.tera.specs.Fault.{syntax_error, message, rendering_error, circular_extend, circular_include, missing_parent, template_not_found, component_not_found, invalid_argument, missing_argument}
 use Rattle.tera.specs.Answer.{SeenError}
 use Rattle.tera_renderer.specs.declared.answer.Answer.{Answer}
 use Rattle.tera_renderer.specs.declared.report.Report.{Report}

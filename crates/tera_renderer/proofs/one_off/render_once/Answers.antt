@@ -1,4 +1,4 @@
-use Rattle.std.proofs.Common.{◌≡◌, ◌∷◌, [], Ok, Err, Some, refl, ap, subst, ◌∙◌, string_bytes}
+use Rattle.std.proofs.Common.{◌∷◌, [], Some, refl, ap, subst, ◌∙◌, string_bytes}
 use Rattle.tera.specs.Registering.{new_registry_with}
 use Rattle.tera_renderer.specs.Calls.{Reads}
 use Rattle.tera_renderer.specs.Held.{fresh}

@@ -1,4 +1,4 @@
-use Rattle.std.proofs.Common.{◌≡◌, List, [], refl, sym, ap, subst, ◌∙◌, string_bytes, map}
+use Rattle.std.proofs.Common.{◌≡◌, List, [], ap, subst, ◌∙◌, string_bytes, map}
 use Rattle.tera.specs.Site.{Name, Text}
 use Rattle.tera.specs.Prelude.{Adds, ConfiguresOneOf, pairs_of, registry_of}
 use Rattle.tera_renderer.specs.Held.{Held, held_by}

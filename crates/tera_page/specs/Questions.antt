@@ -1,6 +1,6 @@
 -- What a question means: what the engine means, at the registry that these templates make and with
 -- the context that this data spells.
-use Rattle.std.specs.Prelude.{◌≡◌, ℕ, zero, suc, ◌==◌, not, Bool, cond, ◌++◌, List, [], ◌∷◌, Option, Some, None, Result, Ok, Err}
+use Rattle.std.specs.Prelude.{◌≡◌, ℕ, zero, suc, ◌==◌, not, Bool, cond, ◌++◌, List, [], ◌∷◌, Some, None, Result, Ok, Err}
 use Rattle.tera.specs.Site.{Name, Text}
 use Rattle.tera.specs.Fault.{Fault}
 use Rattle.tera.specs.MeaningRegistry.{Registry}
@@ -13,7 +13,6 @@ use Rattle.tera.specs.Variables.{AnswersVariables}
 use Rattle.tera_data.specs.declared.number.Floats.{Floats}
 use Rattle.tera_data.specs.declared.number.Floats.TheVariants as floats
 use Rattle.tera_filters.specs.Pack.{extra_engine}
-use Rattle.tera_filters.specs.declared.clocks.Clock.{Clock}
 use Rattle.tera_renderer.specs.Meanings.{AreTheComponents, From, WithData}
 use Rattle.tera_page.specs.declared.question.Question.{Question}
 
@@ -24,12 +23,9 @@ is_set n = not (n == 0)
 abbrev pub floats_for : Question → Floats
 floats_for q = cond (is_set q.takes_floats) floats.Text floats.Refuse
 
-abbrev pub clock_for : Question → Option Clock
-clock_for q = Some (record { seconds = q.seconds })
-
 -- the pack with this clock, and no template; where nothing escapes, no suffix does
 abbrev pub registry_for : Question → Registry
-registry_for q = let r = new_registry_with (extra_engine (clock_for q)) in
+registry_for q = let r = new_registry_with (extra_engine (Some (record { seconds = q.seconds }))) in
     cond (is_set q.autoescape) r (with_suffixes [] r)
 
 -- each name, and the end of a line behind it

@@ -1,5 +1,8 @@
 // The one call of a page.
-ghost use Rattle.tera_page.specs.Answers.{AnswersPage};
+ghost use Rattle.std.specs.Prelude.{◌≡◌};
+ghost use Rattle.tera.specs.Prelude.{pairs_of};
+ghost use Rattle.tera_renderer.specs.Outcomes.{site_of};
+ghost use Rattle.tera_page.specs.Answers.{AnswersPage, place_in};
 
 use crate::answer::{PageAnswer, answer_of_error, answer_with};
 use crate::question::Question;
@@ -41,7 +44,9 @@ pub extern "C" fn tera_page(
 }
 
 // The place of the template of which the error tells.
-fn place_of_error(templates: &[(&str, &str)], error: &Error) -> usize {
+fn place_of_error(templates: &[(&str, &str)], error: &Error) -> usize
+    ensures { result ≡ place_in (pairs_of templates.now) (site_of error.now) }
+{
     match file_of(error) {
         Some(file) => place_of(templates, file),
         None => templates.len(),

@@ -1,5 +1,5 @@
 // The templates of a page, which come as bytes in one piece.
-ghost use Rattle.std.specs.Prelude.{◌≡◌, IfErr, IfOk, drop, take};
+ghost use Rattle.std.specs.Prelude.{◌≡◌, IfErr, IfOk, IsSome, drop, take};
 ghost use Rattle.tera.specs.Answer.{Tells};
 ghost use Rattle.tera.specs.Fault.{message};
 ghost use Rattle.tera.specs.Prelude.{pairs_of};
@@ -27,7 +27,7 @@ pub fn templates_of<'a>(
     ensures ok { IfOk result (λ v. (pairs_of v.items ≡ templates_in sizes.now bytes.now)
         × AreTexts (pieces_of (templates_in sizes.now bytes.now))) }
     ensures told { IfErr result (λ e. Tells e message
-        × ¬ AreTexts (pieces_of (templates_in sizes.now bytes.now))) }
+        × (IsSome e → ¬ AreTexts (pieces_of (templates_in sizes.now bytes.now)))) }
 {
     let mut templates = Vec::new(alloc);
     let mut rest = bytes;

@@ -1,9 +1,10 @@
 "use strict";
 
-// What base64 spells, which may have white space between its letters. Not every browser has the quick way.
+// What base64 spells, which has _ and ' for + and /, and may have white space between its letters. Not every browser has the quick way.
 function bytesOf(packed) {
-    if (Uint8Array.fromBase64) return Uint8Array.fromBase64(packed);
-    const letters = atob(packed), bytes = new Uint8Array(letters.length);
+    const spelled = packed.replaceAll("_", "+").replaceAll("'", "/");
+    if (Uint8Array.fromBase64) return Uint8Array.fromBase64(spelled);
+    const letters = atob(spelled), bytes = new Uint8Array(letters.length);
     for (let place = 0; place < letters.length; place++) bytes[place] = letters.charCodeAt(place);
     return bytes;
 }

@@ -1,5 +1,5 @@
 -- Nodes with bodies, as they are seen where the bodies are lent.
-use Rattle.std.proofs.Common.{◌≡◌, ◌⊎◌, inl, inr, Bool, true, List, Vec, Box, Global, sym, ap, ap₂, ◌∙◌}
+use Rattle.std.proofs.Common.{◌≡◌, Bool, List, Vec, Box, Global, sym, ap, ap₂, ◌∙◌}
 use Rattle.tera_errors.specs.declared.span.Span.{Span}
 use Rattle.tera_syntax_tree.specs.declared.expression.Heading.{Heading}
 use Rattle.tera_syntax_tree.specs.declared.expression.Expression.{Expression}
@@ -12,7 +12,6 @@ use Rattle.tera_syntax_tree.specs.declared.node.Captured.{Captured}
 use Rattle.tera_syntax_tree.specs.Tree.{If, FilterSection, Block}
 use Rattle.tera_syntax_tree.specs.View.{node_of, nodes_of, filters_of, expr_of, for_of, capture_of, component_call_of}
 use Rattle.tera_syntax_tree.proofs.Views.{view_if, view_capture, view_section, view_for, view_block, view_component_call}
-use Rattle.tera_syntax_tree.specs.Free.{binds, node_binds, ◌∪◌}
 
 pub node_if : (node : declared.Node) (condition : Box Expression Global) (body other : Vec declared.Node Global) (xs ys : List declared.Node) → node ≡ variant.If condition body other → xs ≡ body.items → ys ≡ other.items → node_of node ≡ If (expr_of condition.value) (nodes_of xs) (nodes_of ys)
 node_if node condition body other xs ys is a b =
@@ -37,14 +36,3 @@ node_block node b xs is a =
 pub node_call : (node : declared.Node) (tag : Box ComponentTag Global) (body : Vec declared.Node Global) (span : Span) (xs : List declared.Node) → node ≡ variant.ComponentCall tag body span → xs ≡ body.items → node_of node ≡ component_call_of tag.value (nodes_of xs) span
 node_call node tag body span xs is a =
     ap node_of is ∙ view_component_call tag body span ∙ ap (λ x. component_call_of tag.value (nodes_of x) span) (sym a)
-
--- a node with one body binds behind a loop what that does
-pub binds_of_body : (node : declared.Node) (body : Vec declared.Node Global) (xs : List declared.Node)
-    → ((x : Vec SectionFilter Global) × (node ≡ variant.FilterSection x body)) ⊎ ((x : Box ComponentTag Global) × (y : Span) × (node ≡ variant.ComponentCall x body y)) → xs ≡ body.items → node_binds true (node_of node) ≡ binds true (nodes_of xs)
-binds_of_body node body xs (inl p) a = ap (node_binds true) (node_section node p.0 body xs p.1 a)
-binds_of_body node body xs (inr p) a = ap (node_binds true) (node_call node p.0 body p.1 xs p.2 a)
-
--- or what both of its bodies do
-pub binds_of_both : (node : declared.Node) (body other : Vec declared.Node Global) (xs ys : List declared.Node) → ((x : Box Expression Global) × (node ≡ variant.If x body other)) ⊎ ((x : Box Heading Global) × (node ≡ variant.For x body other)) → xs ≡ body.items → ys ≡ other.items → node_binds true (node_of node) ≡ binds true (nodes_of xs) ∪ binds true (nodes_of ys)
-binds_of_both node body other xs ys (inl p) a b = ap (node_binds true) (node_if node p.0 body other xs ys p.1 a b)
-binds_of_both node body other xs ys (inr p) a b = ap (node_binds true) (node_for node p.0 body other xs ys p.1 a b)

@@ -145,3 +145,9 @@ loop_by false false false false g d false o = refl
 pub looped : (t f b s g d e l : Names) → t ∪ (((f ∪ (nobody ∖ b)) ∖ s) ∪ ((g ∪ (l ∖ d)) ∖ e)) ≡ (t ∪ ((f ∖ s) ∪ (g ∖ e))) ∪ (l ∖ (e ∪ d))
 looped t f b s g d e l =
     fun_ext (λ n. loop_by (t n) (f n) (b n) (s n) (g n) (d n) (e n) (l n))
+
+-- names that are taken away in three steps
+pub without_three : (l p q r whole m n o : Names) → m ≡ l ∖ p → n ≡ m ∖ q → o ≡ n ∖ r → p ∪ (q ∪ r) ≡ whole → o ≡ l ∖ whole
+without_three l p q r whole m n o first second third is =
+    third ∙ ap (λ x. x ∖ r) (second ∙ ap (λ x. x ∖ q) first)
+    ∙ without-union (l ∖ p) q r ∙ without-union l p (q ∪ r) ∙ ap (λ x. l ∖ x) is

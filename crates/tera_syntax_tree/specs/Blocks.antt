@@ -1,32 +1,35 @@
 -- The blocks of a tree.
-use Rattle.std.specs.Prelude.{Bool, true, not, ◌&&◌, List, [], ◌∷◌, map, bytes_eq}
+use Rattle.std.specs.Prelude.{Bool, true, false, not, ◌&&◌, List, [], ◌∷◌, map, bytes_eq}
 use Rattle.std.specs.List.{list_any}
 use Rattle.tera_errors.specs.Site as site
-use Rattle.tera_syntax_tree.specs.Tree.{Node, Nodes}
+use Rattle.tera_syntax_tree.specs.Tree.{Node, Block, Nodes}
 use Rattle.tera_syntax_tree.specs.Gathered.{gathered, node_gathered}
 
-abbrev block_with : site.Name → Nodes → List (site.Name × Nodes) → List (site.Name × Nodes)
-block_with name body inside = (name, body) ∷ inside
+-- the block that a node is, with its name and its body
+abbrev pub own_block : Node → List (site.Name × Nodes)
+own_block (Block name body span) = (name, body) ∷ []
+own_block _ = []
 
--- each with its name and its body, in the order of the text; those inside others too
+-- all blocks, in the order of the text; those inside others too
 abbrev pub node_blocks : Node → List (site.Name × Nodes)
-node_blocks = node_gathered block_with (λ name. [])
+node_blocks = node_gathered true own_block
 
 abbrev pub blocks : Nodes → List (site.Name × Nodes)
-blocks = gathered block_with (λ name. [])
+blocks = gathered true own_block
 
 abbrev pub block_names : Nodes → List site.Name
 block_names nodes = map (λ b. b.0) (blocks nodes)
 
-abbrev block_alone : site.Name → Nodes → List site.Name → List site.Name
-block_alone name body inside = name ∷ []
+abbrev pub own_block_name : Node → List site.Name
+own_block_name (Block name body span) = name ∷ []
+own_block_name _ = []
 
 -- the names of those that are inside no other block
 abbrev pub node_top_blocks : Node → List site.Name
-node_top_blocks = node_gathered block_alone (λ name. [])
+node_top_blocks = node_gathered false own_block_name
 
 abbrev pub top_blocks : Nodes → List site.Name
-top_blocks = gathered block_alone (λ name. [])
+top_blocks = gathered false own_block_name
 
 abbrev pub is_among : site.Name → List site.Name → Bool
 is_among n names = list_any (λ m. bytes_eq n m) names

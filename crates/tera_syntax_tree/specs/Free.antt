@@ -81,6 +81,12 @@ filters_free (MoreFilters n all span rest) = arguments_free all ∪ filters_free
 abbrev pub set_binds : Bool → Bool → site.Name → Names
 set_binds in_loop is_global n = if is_global || not in_loop then only n else nobody
 
+-- the name that a node itself sets
+abbrev pub own_binds : Bool → Node → Names
+own_binds in_loop (Set n e is_global) = set_binds in_loop is_global n
+own_binds in_loop (Capture n fs body is_global) = set_binds in_loop is_global n
+own_binds in_loop _ = nobody
+
 -- the names that are bound behind nodes, or behind the loop in whose body they stand
 abbrev mutual
   pub node_binds : Bool → Node → Names

@@ -1,15 +1,20 @@
 -- What a tree includes.
-use Rattle.std.specs.Prelude.{List, [], ◌∷◌, ◌++◌, flat_map}
+use Rattle.std.specs.Prelude.{true, List, [], ◌∷◌, ◌++◌, flat_map}
 use Rattle.tera_errors.specs.Site as site
-use Rattle.tera_syntax_tree.specs.Tree.{Node, Nodes, Definitions, Tree}
+use Rattle.tera_syntax_tree.specs.Tree.{Node, Include, Nodes, Definitions, Tree}
 use Rattle.tera_syntax_tree.specs.Gathered.{gathered, node_gathered}
 
--- the names that are included, in the order of the text; those in blocks too
+-- the name that a node includes
+abbrev pub own_include : Node → List site.Name
+own_include (Include name span) = name ∷ []
+own_include _ = []
+
+-- all that is included, in the order of the text; in blocks too
 abbrev pub node_includes : Node → List site.Name
-node_includes = node_gathered (λ name body inside. inside) (λ name. name ∷ [])
+node_includes = node_gathered true own_include
 
 abbrev pub includes : Nodes → List site.Name
-includes = gathered (λ name body inside. inside) (λ name. name ∷ [])
+includes = gathered true own_include
 
 -- the names that the bodies of components include
 abbrev pub definitions_include : Definitions → List site.Name

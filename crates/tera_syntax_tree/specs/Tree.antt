@@ -122,6 +122,22 @@ mutual
     NoNodes : Nodes
     MoreNodes : (node : Node) (rest : Nodes) → Nodes
 
+-- what stands between the tags of a statement
+abbrev pub body_of : Node → Nodes
+body_of (If c body other) = body
+body_of (Capture n fs body is_global) = body
+body_of (FilterSection fs body) = body
+body_of (For key n e body other) = body
+body_of (Block n body span) = body
+body_of (ComponentCall n all body span) = body
+body_of _ = NoNodes
+
+-- what stands behind the `else` of a statement
+abbrev pub other_of : Node → Nodes
+other_of (If c body other) = other
+other_of (For key n e body other) = other
+other_of _ = NoNodes
+
 -- components, each with its body
 abbrev pub Definitions : Type 0
 Definitions = List (Signature × Nodes)

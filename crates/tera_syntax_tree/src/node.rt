@@ -1,4 +1,8 @@
 // Nodes of a template. They borrow names and texts from its source.
+ghost use Rattle.std.specs.Prelude.{◌≡◌};
+ghost use Rattle.tera_syntax_tree.specs.Tree.{body_of, other_of};
+ghost use Rattle.tera_syntax_tree.specs.View.{node_of, nodes_of};
+
 use crate::component::Signature;
 use crate::expression::{Argument, ComponentTag, Expression, Heading};
 use crate::quoted::Quoted;
@@ -112,6 +116,35 @@ impl<'s> Drop for Node<'s> {
             } => {}
             Node::Break => {}
             Node::Continue => {}
+        }
+    }
+}
+
+impl<'s> Node<'s> {
+    /// What stands between the tags of a statement. It is empty where the node has no such body. So a walk names only the nodes of
+    /// which it says more than of their bodies.
+    pub fn body(&self) -> &[Node<'s>]
+        ensures { nodes_of result.now ≡ body_of (node_of self.now) }
+    {
+        match self {
+            Node::If { body, .. } => body.as_slice(),
+            Node::Capture { body, .. } => body.as_slice(),
+            Node::FilterSection { body, .. } => body.as_slice(),
+            Node::For { body, .. } => body.as_slice(),
+            Node::Block(block) => block.body.as_slice(),
+            Node::ComponentCall { body, .. } => body.as_slice(),
+            _ => &[],
+        }
+    }
+
+    /// What stands behind the `else` of a statement, or its `elif`. It is empty where the node has no such body.
+    pub fn other(&self) -> &[Node<'s>]
+        ensures { nodes_of result.now ≡ other_of (node_of self.now) }
+    {
+        match self {
+            Node::If { other, .. } => other.as_slice(),
+            Node::For { other, .. } => other.as_slice(),
+            _ => &[],
         }
     }
 }

@@ -3,7 +3,8 @@ use Rattle.std.specs.Prelude.{◌≡◌, ℕ, Bool, true, false, nat_eq, IsTrue,
 use Rattle.std.specs.List.{list_any}
 use Rattle.tera_errors.specs.Site.{Text, Name}
 use Rattle.tera_errors.specs.Fault.{Fault}
-use Rattle.tera_syntax_tree.specs.Tree.{Node, Content, Print, If, Set, Capture, FilterSection, For, Block, Include, ComponentCall, Break, Continue, Nodes, NoNodes, MoreNodes}
+use Rattle.tera_syntax_tree.specs.Gathered.{gathered, node_gathered}
+use Rattle.tera_syntax_tree.specs.Tree.{Node, Content, Nodes}
 use Rattle.tera_syntax_tree.specs.Calls as called
 use Rattle.tera_syntax_tree.specs.Calls.{AFilter, calls}
 use Rattle.tera_values.specs.Alphabet.{Mark, template, marked_safe, escaped, made, outside, Marked}
@@ -16,25 +17,17 @@ use Rattle.tera_state.specs.Engine.{Engine, OwnFilter, OwnFunction, Callee, own,
 use Rattle.tera_state.specs.Calling.{answer_of}
 use Rattle.tera_meaning.specs.Marks.Origin.{is_markup}
 
--- the texts between the tags of a body; blocks are bodies of their own
-abbrev mutual
-  pub node_contents : Node → List Text
-  node_contents (Content t span) = t ∷ []
-  node_contents (Print e) = []
-  node_contents (If c body other) = contents body ++ contents other
-  node_contents (Set n e is_global) = []
-  node_contents (Capture n fs body is_global) = contents body
-  node_contents (FilterSection fs body) = contents body
-  node_contents (For key n e body other) = contents body ++ contents other
-  node_contents (Block n body span) = []
-  node_contents (Include n span) = []
-  node_contents (ComponentCall n all body span) = contents body
-  node_contents Break = []
-  node_contents Continue = []
+-- the text that a node is
+abbrev pub own_text : Node → List Text
+own_text (Content t span) = t ∷ []
+own_text _ = []
 
-  pub contents : Nodes → List Text
-  contents NoNodes = []
-  contents (MoreNodes n rest) = node_contents n ++ contents rest
+-- the texts between the tags of a body; blocks are bodies of their own
+abbrev pub node_contents : Node → List Text
+node_contents = node_gathered false own_text
+
+abbrev pub contents : Nodes → List Text
+contents = gathered false own_text
 
 -- the safe texts of a value, and of all that lies in it
 abbrev mutual

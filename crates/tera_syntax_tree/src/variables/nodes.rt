@@ -4,7 +4,7 @@
 ghost use Rattle.std.specs.Prelude.{◌≡◌, OnOk, IfOk, IfErr, true};
 ghost use Rattle.tera_errors.specs.Prelude.{Lacks};
 ghost use Rattle.tera_syntax_tree.specs.Prelude.{FilterSection, filters_of, node_of, nodes_of};
-ghost use Rattle.tera_syntax_tree.specs.Free.{free, node_binds, binds, set_binds, ◌∖◌};
+ghost use Rattle.tera_syntax_tree.specs.Free.{free, node_binds, binds, own_binds, set_binds, ◌∖◌};
 ghost use Rattle.tera_syntax_tree.specs.Sets.{names_in, before, before_all};
 
 use crate::expression::Heading;
@@ -123,11 +123,16 @@ fn remove_globals(nodes: &[Node], found: &mut NameSet)
 fn remove_globals_of(node: &Node, found: &mut NameSet)
     ensures { names_in found.new ≡ names_in found.old ∖ node_binds true (node_of node.now) }
 {
+    remove_own_global(node, found);
+    remove_globals(node.body(), found);
+    remove_globals(node.other(), found);
+}
+
+// Takes away the name that the node itself sets, where that is bound behind the loop.
+fn remove_own_global(node: &Node, found: &mut NameSet)
+    ensures { names_in found.new ≡ names_in found.old ∖ own_binds true (node_of node.now) }
+{
     match node {
-        Node::If { body, other, .. } | Node::For { body, other, .. } => {
-            remove_globals(body.as_slice(), found);
-            remove_globals(other.as_slice(), found);
-        }
         Node::Set {
             name,
             is_global,
@@ -136,21 +141,9 @@ fn remove_globals_of(node: &Node, found: &mut NameSet)
         Node::Capture {
             is_global,
             captured,
-            body,
-        } => {
-            remove_if_global(captured.name, *is_global, found);
-            remove_globals(body.as_slice(), found);
-        }
-        Node::Block(block) => remove_globals(block.body.as_slice(), found),
-        Node::FilterSection { body, .. } | Node::ComponentCall { body, .. } => {
-            remove_globals(body.as_slice(), found)
-        }
-        Node::Content { .. }
-        | Node::Print { .. }
-        | Node::PrintName { .. }
-        | Node::Include { .. }
-        | Node::Break
-        | Node::Continue => {}
+            ..
+        } => remove_if_global(captured.name, *is_global, found),
+        _ => {}
     }
 }
 

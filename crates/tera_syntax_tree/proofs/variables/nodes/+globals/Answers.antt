@@ -1,11 +1,11 @@
-use Rattle.std.proofs.Common.{◌∙◌, ap, sym, true, arith}
+use Rattle.std.proofs.Common.{◌∙◌, ap, sym, true, arith, subst, ◌<◌}
 use Rattle.std.proofs.lemmas.List.{drop_all}
-use Rattle.tera_syntax_tree.specs.View.{nodes_of}
-use Rattle.tera_syntax_tree.specs.Free.{binds, node_binds, ◌∖◌}
+use Rattle.tera_syntax_tree.specs.View.{node_of, nodes_of}
+use Rattle.tera_syntax_tree.specs.Free.{binds, ◌∖◌}
 use Rattle.tera_syntax_tree.specs.Sets.{names_in}
-use Rattle.tera_syntax_tree.proofs.Unions.{without-pass}
+use Rattle.tera_syntax_tree.proofs.Unions.{without-pass, without_three}
 use Rattle.tera_syntax_tree.proofs.Forms.{drop-here}
-use Rattle.tera_syntax_tree.proofs.Bodies.{node_block, node_capture, binds_of_body, binds_of_both}
+use Rattle.tera_syntax_tree.proofs.Walks.{binds_of_bodies, falls_to_node, node_measure}
 use Rattle.tera_syntax_tree.proofs.variables.nodes.+globals.Goals as goal
 
 pub remove_globals-loop-node-preserved : goal.remove_globals-loop-node-preserved
@@ -16,18 +16,12 @@ pub remove_globals-returns : goal.remove_globals-returns
 remove_globals-returns t c =
     sym (ap (λ xs. names_in c.loop-node.found ∖ binds true (nodes_of xs)) (drop_all c.loop-node.node-index c.args.nodes.now (omega (arith, c.loop-node-test.false)))) ∙ c.loop-node.invariant
 
-pub remove_globals_of-returns-in-If : goal.remove_globals_of-returns-in-If
-remove_globals_of-returns-in-If t c =
-    c.remove_globals-in-If-2.ensures ∙ without-pass _ _ _ _ _ (binds_of_both _ c.in-If.body c.in-If.other _ _ c.in-If.is c.as_slice-in-If.ensures.value c.as_slice-in-If-2.ensures.value) c.remove_globals-in-If.ensures
+pub remove_globals-remove_globals_of-requires : goal.remove_globals-remove_globals_of-requires
+remove_globals-remove_globals_of-requires t c =
+    (subst (λ m. node_measure c.node-item.result < m) c.decreases (falls_to_node c.args.nodes.now c.loop-node.node-index c.node-item.result c.loop-node-test.true c.node-item.is), tt)
 
-pub remove_globals_of-returns-in-Capture : goal.remove_globals_of-returns-in-Capture
-remove_globals_of-returns-in-Capture t c =
-    c.remove_globals.ensures ∙ without-pass _ _ _ _ _ (ap (node_binds true) (node_capture _ c.in-Capture.is_global c.in-Capture.captured c.in-Capture.body _ _ c.in-Capture.is c.deref.ensures c.as_slice.ensures.value)) c.remove_if_global-in-Capture.ensures
-
-pub remove_globals_of-returns-in-FilterSection : goal.remove_globals_of-returns-in-FilterSection
-remove_globals_of-returns-in-FilterSection t c =
-    c.remove_globals-in-FilterSection.ensures ∙ ap (λ x. names_in c.args.found.now ∖ x) (sym (binds_of_body _ c.in-FilterSection.body _ c.in-FilterSection.is c.as_slice-in-FilterSection.ensures.value))
-
-pub remove_globals_of-returns-in-Block : goal.remove_globals_of-returns-in-Block
-remove_globals_of-returns-in-Block t c =
-    c.remove_globals-in-Block.ensures ∙ ap (λ x. names_in c.args.found.now ∖ x) (sym (ap (node_binds true) (node_block _ c.in-Block.block _ c.in-Block.is c.as_slice-in-Block.ensures.value)))
+pub remove_globals_of-returns : goal.remove_globals_of-returns
+remove_globals_of-returns t c =
+    let b = c.remove_globals.ensures ∙ ap (λ x. names_in c.remove_own_global.new.found ∖ binds true x) c.body.ensures in
+    let o = c.remove_globals-2.ensures ∙ ap (λ x. names_in c.remove_globals.new.found ∖ binds true x) c.other.ensures in
+    without_three _ _ _ _ _ _ _ _ c.remove_own_global.ensures b o (binds_of_bodies (node_of c.args.node.now))

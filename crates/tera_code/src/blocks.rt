@@ -1,7 +1,7 @@
 // The blocks of a template, each with code of its own.
 ghost use Rattle.std.specs.Prelude.{◌≡◌, ◌++◌, [], ◌∷◌, map, OnOk, IfOk};
 ghost use Rattle.tera_code.specs.Blocks.{block_of, block_listings};
-ghost use Rattle.tera_syntax_tree.specs.Prelude.{blocks, node_blocks, node_of, nodes_of};
+ghost use Rattle.tera_syntax_tree.specs.Prelude.{blocks, node_blocks, node_of, nodes_of, own_block};
 
 use crate::chunk::Chunk;
 use crate::nodes::compile_body;
@@ -52,19 +52,24 @@ fn add(alloc: Global, node: &Node, file: &str, found: &mut Vec<BlockCode>) -> Re
         ≡ map block_of found.old.items ++ block_listings file.now
         (node_blocks (node_of node.now))) }
 {
+    add_own(alloc, node, file, found)?;
+    add_all(alloc, node.body(), file, found)?;
+    add_all(alloc, node.other(), file, found)
+}
+
+// Puts the block that the node is, if it is one, behind those that were found.
+fn add_own(
+    alloc: Global,
+    node: &Node,
+    file: &str,
+    found: &mut Vec<BlockCode>,
+) -> Result<(), AllocError>
+    ensures { OnOk result (map block_of found.new.items
+        ≡ map block_of found.old.items ++ block_listings file.now
+        (own_block (node_of node.now))) }
+{
     match node {
-        Node::If { body, other, .. } | Node::For { body, other, .. } => {
-            add_all(alloc, body.as_slice(), file, found)?;
-            add_all(alloc, other.as_slice(), file, found)
-        }
-        Node::Capture { body, .. }
-        | Node::FilterSection { body, .. }
-        | Node::ComponentCall { body, .. } => add_all(alloc, body.as_slice(), file, found),
-        Node::Block(block) => {
-            let body = block.body.as_slice();
-            put(alloc, body, file, block.name, found)?;
-            add_all(alloc, body, file, found)
-        }
+        Node::Block(block) => put(alloc, block.body.as_slice(), file, block.name, found),
         _ => Ok(()),
     }
 }

@@ -37,37 +37,11 @@ impl SizeGuess {
     // A node that is neither. What a body is compiled to counts with it; a block is compiled by itself.
     #[cycle(nodes)]
     fn add_tag(&mut self, node: &Node) {
-        match node {
-            Node::Print { value } => self.add(size_of(value)),
-            Node::If {
-                condition,
-                body,
-                other,
-            } => {
-                self.add(size_of(condition));
-                self.add_body(body);
-                self.add_body(other);
-            }
-            Node::For {
-                heading,
-                body,
-                other,
-            } => {
-                self.add(size_of(&heading.target));
-                self.add_body(body);
-                self.add_body(other);
-            }
-            Node::Capture { body, .. } => self.add_body(body),
-            Node::FilterSection { body, .. } => self.add_body(body),
-            Node::ComponentCall { body, .. } => self.add_body(body),
-            _ => self.add(1),
+        self.add(size_of_tag(node));
+        if !is_block(node) {
+            self.add_nodes(node.body());
+            self.add_nodes(node.other());
         }
-    }
-
-    // Lent whole, as the compiler lends a body.
-    #[cycle(nodes)]
-    fn add_body(&mut self, body: &Vec<Node>) {
-        self.add_nodes(body.as_slice())
     }
 
     fn add_text(&mut self, text: &str) {
@@ -79,6 +53,20 @@ impl SizeGuess {
     fn add(&mut self, count: usize) {
         self.instructions = self.instructions.saturating_add(count);
         self.spans = self.spans.saturating_add(count);
+    }
+}
+
+fn is_block(node: &Node) -> bool {
+    matches!(node, Node::Block(_))
+}
+
+// How many instructions a tag is compiled to, beside its bodies.
+fn size_of_tag(node: &Node) -> usize {
+    match node {
+        Node::Print { value } => size_of(value),
+        Node::If { condition, .. } => size_of(condition),
+        Node::For { heading, .. } => size_of(&heading.target),
+        _ => 1,
     }
 }
 

@@ -6,9 +6,9 @@ use Rattle.tera_syntax_tokens.specs.declared.token.Kind.TheVariants as k
 use Rattle.tera_syntax_tokens.specs.Token.{Token}
 use Rattle.tera_syntax_tokens.specs.Cut.{Piece, Words, Comment, Variable, Block}
 use Rattle.tera_syntax_tree.specs.Tree.{Content, Print, Break, Node, Nodes, NoNodes}
-use Rattle.tera_syntax_tree.specs.Depth.{depth, entries_depth, filters_depth, node_depth, nodes_depth}
+use Rattle.tera_syntax_tree.specs.Depth.{depth, node_depth, nodes_depth}
 use Rattle.tera_syntax.specs.declared.heads.Surroundings.{Surroundings}
-use Rattle.tera_syntax.specs.Heads.{Head, IfHead, ForHead, SetHead, SectionHead, BlockHead, CallHead, make, head_depth, splits, chains, inside, ends}
+use Rattle.tera_syntax.specs.Heads.{Head, IfHead, ForHead, BlockHead, make, head_depth, splits, chains, inside, ends}
 use Rattle.tera_syntax.specs.Grammar.{IsWord, Simple, Opens, GoesOn, join, DerivesNodes, empty, content, blank, comment, print, single, bodied, DerivesRest, ended, split, chained}
 use Rattle.tera_syntax.specs.Reader.{OpenStatement, Progress, Tag, Single, Opening, GoingOn, Dividing, Closing, one, printed, put, room, opened, closed, around, tag, taken, statement, step}
 use Rattle.tera_syntax.proofs.Rows.{join-none, join-join}
@@ -32,22 +32,12 @@ pub node-some : (n : Node) → 0 < node_depth n
 node-some Break = omega arith
 node-some _ = omega arith
 
-two-fit : (c b m : ℕ) → suc (max c b) ≤ suc m → (c ≤ m) × (b ≤ m)
-two-fit c b m le = (omega arith, omega arith)
-
-three-fit : (c b o m : ℕ) → suc (max c (max b o)) ≤ suc m → (c ≤ m) × (b ≤ m)
-three-fit c b o m le = (omega arith, omega arith)
-
 third-fits : (c b o m : ℕ) → suc (max c (max b o)) ≤ suc m → o ≤ m
 third-fits c b o m le = omega arith
 
 head-fits : (h : Head) (b o : Nodes) (m : ℕ) → node_depth (make h b o) ≤ suc m → (head_depth h ≤ m) × (nodes_depth b ≤ m)
-head-fits (IfHead c) b o m le = three-fit (depth c) (nodes_depth b) (nodes_depth o) m le
-head-fits (ForHead k n e) b o m le = three-fit (depth e) (nodes_depth b) (nodes_depth o) m le
-head-fits (SetHead n fs g) b o m le = two-fit (filters_depth fs) (nodes_depth b) m le
-head-fits (SectionHead fs) b o m le = two-fit (filters_depth fs) (nodes_depth b) m le
 head-fits (BlockHead n s) b o m le = (omega arith, omega (arith, le))
-head-fits (CallHead n es s) b o m le = two-fit (entries_depth es) (nodes_depth b) m le
+head-fits _ b o m le = (omega (arith, le), omega (arith, le))
 
 other-fits : (h : Head) (b o : Nodes) (m : ℕ) → splits h ≡ true → node_depth (make h b o) ≤ suc m → nodes_depth o ≤ m
 other-fits (IfHead c) b o m q le = third-fits (depth c) (nodes_depth b) (nodes_depth o) m le

@@ -3,23 +3,23 @@ use Rattle.std.proofs.Common.{◌≡◌, ◌≤◌, arith, Bool, true, false, no
 use Rattle.std.specs.Cmp.Lexicographic.{nat_list_eq_equiv}
 use Rattle.std.specs.Str.{bytes_eq}
 use Rattle.std.specs.Option.{option_or, unwrap_or}
-use Rattle.std.proofs.lemmas.List.{map-append}
 use Rattle.std.proofs.lemmas.List.Elements.{All-head, All-tail}
 use Rattle.std.proofs.lemmas.Simd.{map-map}
 use Rattle.tera_errors.specs.Site.{Name}
 use Rattle.tera_errors.specs.declared.span.Span.{Span}
-use Rattle.tera_syntax_tree.specs.Tree.{Tree, Node, Content, If, Capture, FilterSection, For, Block, ComponentCall, Nodes, NoNodes, MoreNodes, Signature, Definitions}
-use Rattle.tera_syntax_tree.specs.Blocks.{node_blocks, blocks, block_names, are_distinct, is_among, has_each_block_once}
+use Rattle.tera_syntax_tree.specs.Tree.{Tree, Node, Content, Block, Nodes, NoNodes, MoreNodes, Signature, Definitions}
+use Rattle.tera_syntax_tree.specs.Blocks.{own_block, own_block_name, block_names, are_distinct, is_among, has_each_block_once}
 use Rattle.tera_syntax_tree.specs.Definitions.{component_names, has_each_component_once}
 use Rattle.tera_syntax_tree.specs.Inside.{Within, NodeInside, NodesInside}
 use Rattle.tera_syntax_tree.specs.View.{tree_of}
+use Rattle.tera_syntax_tree.proofs.Walks.{gathered_map}
 use Rattle.tera_syntax_tree.specs.declared.node.ParserOutput.{ParserOutput}
 use Rattle.tera_syntax_tokens.specs.Answers.{Answers}
 use Rattle.tera_syntax_tokens.specs.declared.refusal.Refusal.{Refusal}
 use Rattle.tera_syntax_tokens.specs.declared.refusal.Refusal.TheVariants.{Syntax, OutOfMemory}
 use Rattle.tera_syntax.specs.declared.blocks.PlacedName.{PlacedName}
 use Rattle.tera_syntax.specs.File.{once}
-use Rattle.tera_syntax.specs.Names.{NameAt, node_blocks_at, blocks_at, component_at, components_at, text_start, first_text, first_at, again, tree_doubled, RefusesOnly}
+use Rattle.tera_syntax.specs.Names.{NameAt, own_block_at, blocks_at, component_at, components_at, text_start, first_text, first_at, again, tree_doubled, RefusesOnly}
 use Rattle.tera_syntax.specs.Positions.{NamesWithin}
 use Rattle.tera_syntax.specs.View.{names_of}
 
@@ -80,23 +80,18 @@ module _ (size : ℕ) where
       let behind = All-tail (λ n. Within size n.span) n rest all in
       within-or (first_at n.name.now (names_of rest)) (again (names_of rest)) (within-first_at n.name.now rest behind) (within-again rest behind)
 
--- names of two lists, one behind the other
-joined : {A B : Type 0} (f : A → Name) (g : B → Name) (a b : List A) (c d : List B) → map f a ≡ map g c → map f b ≡ map g d → map f (a ++ b) ≡ map g (c ++ d)
-joined f g a b c d p q = map-append f a b ∙ ap₂ (λ x y. x ++ y) p q ∙ sym (map-append g c d)
+own_bare : (node : Node) → bare (own_block_at node) ≡ own_block_name node
+own_bare (Block n body span) = refl
+own_bare _ = refl
 
-mutual
-  bare-node_blocks_at : (node : Node) → bare (node_blocks_at node) ≡ map (λ b. b.0) (node_blocks node)
-  bare-node_blocks_at (Block n body span) = ap (λ names. n ∷ names) (bare-blocks_at body)
-  bare-node_blocks_at (If c body other) = joined (λ n. n.0) (λ b. b.0) (blocks_at body) (blocks_at other) (blocks body) (blocks other) (bare-blocks_at body) (bare-blocks_at other)
-  bare-node_blocks_at (For key n e body other) = joined (λ n. n.0) (λ b. b.0) (blocks_at body) (blocks_at other) (blocks body) (blocks other) (bare-blocks_at body) (bare-blocks_at other)
-  bare-node_blocks_at (Capture n fs body is_global) = bare-blocks_at body
-  bare-node_blocks_at (FilterSection fs body) = bare-blocks_at body
-  bare-node_blocks_at (ComponentCall n all body span) = bare-blocks_at body
-  bare-node_blocks_at _ = refl
+own_named : (node : Node) → map (λ b. b.0) (own_block node) ≡ own_block_name node
+own_named (Block n body span) = refl
+own_named _ = refl
 
-  bare-blocks_at : (nodes : Nodes) → bare (blocks_at nodes) ≡ block_names nodes
-  bare-blocks_at NoNodes = refl
-  bare-blocks_at (MoreNodes n rest) = joined (λ n. n.0) (λ b. b.0) (node_blocks_at n) (blocks_at rest) (node_blocks n) (blocks rest) (bare-node_blocks_at n) (bare-blocks_at rest)
+bare-blocks_at : (nodes : Nodes) → bare (blocks_at nodes) ≡ block_names nodes
+bare-blocks_at nodes =
+    gathered_map (λ n. n.0) own_block_at own_block_name own_bare nodes
+    ∙ sym (gathered_map (λ b. b.0) own_block own_block_name own_named nodes)
 
 bare-components_at : (ds : Definitions) → bare (components_at ds) ≡ component_names ds
 bare-components_at ds = map-map (λ n. n.0) component_at ds

@@ -7,7 +7,7 @@ use Rattle.tera_syntax_tree.specs.Leaving.{node_in_place, in_place, definitions_
 use Rattle.tera_syntax_tree.specs.Blocks.{node_blocks, blocks}
 use Rattle.tera_syntax_tree.specs.Definitions.{is_empty, have_no_blocks}
 use Rattle.tera_syntax.specs.declared.heads.Surroundings.{Surroundings}
-use Rattle.tera_syntax.specs.Heads.{Head, IfHead, ForHead, SetHead, SectionHead, BlockHead, CallHead, make, inside}
+use Rattle.tera_syntax.specs.Heads.{Head, IfHead, ForHead, BlockHead, make, inside}
 use Rattle.tera_syntax.specs.Grammar.{Simple, set, includes, breaks, continues, Opens, block, elif, join, DerivesNodes, empty, content, blank, comment, print, single, bodied, DerivesRest, ended, split, chained, DerivesParts, last, component}
 
 pub and-true : (a b : Bool) → a ≡ true → b ≡ true → (a && b) ≡ true
@@ -80,10 +80,8 @@ inside_may q _ = refl
 made_bare : (q : Surroundings) (head : Head) (body other : Nodes) → MayOpen q head → q.may_have_blocks ≡ false → blocks body ≡ [] → blocks other ≡ [] → node_blocks (make head body other) ≡ []
 made_bare q (IfHead c) body other m n b o = ap₂ (λ x y. x ++ y) b o
 made_bare q (ForHead key name e) body other m n b o = ap₂ (λ x y. x ++ y) b o
-made_bare q (SetHead name fs is_global) body other m n b o = b
-made_bare q (SectionHead fs) body other m n b o = b
 made_bare q (BlockHead name span) body other m n b o = let e : true ≡ false = sym m ∙ n in absurd (cc)
-made_bare q (CallHead name all span) body other m n b o = b
+made_bare q _ body other m n b o = b
 
 mutual
   derived_bare : {q : Surroundings} {x : Nodes} {i j : List Piece} → q.may_have_blocks ≡ false → DerivesNodes q x i j → blocks x ≡ []

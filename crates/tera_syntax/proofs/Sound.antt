@@ -7,9 +7,9 @@ use Rattle.tera_syntax_tokens.specs.Token.{Token}
 use Rattle.tera_syntax_tokens.specs.Input.{begin, next}
 use Rattle.tera_syntax_tokens.specs.Cut.{Piece, Words, Comment, Variable, Block, Broken}
 use Rattle.tera_syntax_tree.specs.Tree.{Expr, Signature, Content, Print, Node, Nodes, NoNodes, Definitions}
-use Rattle.tera_syntax_tree.specs.Depth.{depth, entries_depth, filters_depth, parameters_depth, node_depth, nodes_depth}
+use Rattle.tera_syntax_tree.specs.Depth.{parameters_depth, node_depth, nodes_depth}
 use Rattle.tera_syntax.specs.declared.heads.Surroundings.{Surroundings}
-use Rattle.tera_syntax.specs.Heads.{Head, IfHead, ForHead, SetHead, SectionHead, BlockHead, CallHead, outside, in_component, is_component, ends_component, make, head_depth, splits, chains, inside, ends}
+use Rattle.tera_syntax.specs.Heads.{Head, BlockHead, outside, in_component, is_component, ends_component, make, head_depth, splits, chains, inside, ends}
 use Rattle.tera_syntax.specs.Grammar.{IsWord, Opens, GoesOn, Defines, join, DerivesNodes, empty, content, blank, comment, print, single, bodied, DerivesRest, ended, split, chained}
 use Rattle.tera_syntax.specs.Reader.{OpenStatement, Progress, Tag, Single, Opening, GoingOn, Dividing, Closing, one, printed, put, room, made, row, opened, divided, divided_by, closed, shut, around, tag, taken, statement, whole, signed}
 use Rattle.tera_syntax.specs.Parts.{OpenComponent, Parts, component_begun, component_ended, plain_step, parts_read_on}
@@ -67,20 +67,10 @@ in_front limit ds c q fs found a i j x build le (in_other {f = f} {fs = gs} {bod
 one-small : (n limit h : ℕ) → h < limit → n ≤ suc (limit - suc h) → max n 0 ≤ limit - h
 one-small n limit h lt le = omega arith
 
-three-small : (c b o m : ℕ) → c ≤ m → b ≤ m → o ≤ m → suc (max c (max b o)) ≤ suc m
-three-small c b o m p q r = omega arith
-
-two-small : (c b m : ℕ) → c ≤ m → b ≤ m → suc (max c b) ≤ suc m
-two-small c b m p q = omega arith
-
 -- how deep a statement is, by its parts
 made-small : (h : Head) (b o : Nodes) (m : ℕ) → head_depth h ≤ m → nodes_depth b ≤ m → nodes_depth o ≤ m → node_depth (make h b o) ≤ suc m
-made-small (IfHead c) b o m p q r = three-small (depth c) (nodes_depth b) (nodes_depth o) m p q r
-made-small (ForHead k n e) b o m p q r = three-small (depth e) (nodes_depth b) (nodes_depth o) m p q r
-made-small (SetHead n fs g) b o m p q r = two-small (filters_depth fs) (nodes_depth b) m p q
-made-small (SectionHead fs) b o m p q r = two-small (filters_depth fs) (nodes_depth b) m p q
 made-small (BlockHead n s) b o m p q r = omega (arith, q)
-made-small (CallHead n es s) b o m p q r = two-small (entries_depth es) (nodes_depth b) m p q
+made-small _ b o m p q r = omega (arith, p, q, r)
 
 -- what a step that was taken says
 pub if_then : {A B : Type 0} (b : Bool) (f : Option A → Option B) (o : Option A) (y : B) → f None ≡ None → f (if b then o else None) ≡ Some y → (b ≡ true) × (f o ≡ Some y)

@@ -1,10 +1,11 @@
 -- The names of blocks and of components with where they stand, and what is refused where two of
 -- them are the same.
-use Rattle.std.specs.Prelude.{◌≡◌, ℕ, List, [], ◌∷◌, ◌++◌, Option, Some, None, Result, Ok, Err, map, option_map, bytes_eq, if◌then◌else◌}
+use Rattle.std.specs.Prelude.{◌≡◌, ℕ, true, List, [], ◌∷◌, Option, Some, None, Result, Ok, Err, map, option_map, bytes_eq, if◌then◌else◌}
 use Rattle.std.specs.Option.{option_or, unwrap_or}
 use Rattle.tera_errors.specs.Site.{Name}
 use Rattle.tera_errors.specs.declared.span.Span.{Span}
-use Rattle.tera_syntax_tree.specs.Tree.{Tree, Node, Content, If, Capture, FilterSection, For, Block, ComponentCall, Nodes, NoNodes, MoreNodes, Signature, Definitions}
+use Rattle.tera_syntax_tree.specs.Gathered.{gathered, node_gathered}
+use Rattle.tera_syntax_tree.specs.Tree.{Tree, Node, Content, Block, Nodes, NoNodes, MoreNodes, Signature, Definitions}
 use Rattle.tera_syntax_tokens.specs.declared.refusal.Reason.{Reason}
 use Rattle.tera_syntax_tokens.specs.declared.refusal.Reason.TheVariants.{BlockTwice, ComponentTwice}
 use Rattle.tera_syntax_tokens.specs.declared.refusal.Refusal.{Refusal}
@@ -14,20 +15,17 @@ use Rattle.tera_syntax_tokens.specs.declared.refusal.Refusal.TheVariants.{Syntax
 abbrev pub NameAt : Type 0
 NameAt = Name × Span
 
--- the blocks, in the order of the text; those inside others too
-abbrev mutual
-  pub node_blocks_at : Node → List NameAt
-  node_blocks_at (Block n body span) = (n, span) ∷ blocks_at body
-  node_blocks_at (If c body other) = blocks_at body ++ blocks_at other
-  node_blocks_at (For key n e body other) = blocks_at body ++ blocks_at other
-  node_blocks_at (Capture n fs body is_global) = blocks_at body
-  node_blocks_at (FilterSection fs body) = blocks_at body
-  node_blocks_at (ComponentCall n all body span) = blocks_at body
-  node_blocks_at _ = []
+-- the block that a node is
+abbrev pub own_block_at : Node → List NameAt
+own_block_at (Block name body span) = (name, span) ∷ []
+own_block_at _ = []
 
-  pub blocks_at : Nodes → List NameAt
-  blocks_at NoNodes = []
-  blocks_at (MoreNodes n rest) = node_blocks_at n ++ blocks_at rest
+-- the blocks, in the order of the text; those inside others too
+abbrev pub node_blocks_at : Node → List NameAt
+node_blocks_at = node_gathered true own_block_at
+
+abbrev pub blocks_at : Nodes → List NameAt
+blocks_at = gathered true own_block_at
 
 -- where a text begins
 abbrev pub text_start : Node → Option ℕ

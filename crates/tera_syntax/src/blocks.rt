@@ -1,7 +1,7 @@
 // The names of a tree's blocks and components.
 ghost use Rattle.std.specs.Prelude.{ℕ, ◌≡◌, ◌≤◌, ◌∷◌, [], IfOk, IfErr};
 ghost use Rattle.tera_syntax.specs.File as spec;
-ghost use Rattle.tera_syntax.specs.Names.{again, blocks_at, components_at, doubled, first_at, first_text, node_blocks_at, placed, RefusesOnly, text_start, tree_doubled};
+ghost use Rattle.tera_syntax.specs.Names.{again, blocks_at, components_at, doubled, first_at, first_text, node_blocks_at, own_block_at, placed, RefusesOnly, text_start, tree_doubled};
 ghost use Rattle.tera_syntax.specs.Positions.{NamesWithin, StayWithin};
 ghost use Rattle.tera_syntax.specs.View.{Gathers, names_of};
 ghost use Rattle.tera_syntax_tokens.specs.Prelude.{Answers, PointsWithin};
@@ -46,23 +46,27 @@ fn gather_node<'s>(names: &mut Vec<PlacedName<'s>>, node: &Node<'s>) -> Result<(
     ensures points { StayWithin (λ size. NodeInside size (node_of node.now))
         names.old.items result names.new.items }
 {
+    gather_own(names, node)?;
+    gather(names, node.body())?;
+    gather(names, node.other())
+}
+
+/// Puts the name of the block that the node is, if it is one, behind those that are there.
+fn gather_own<'s>(names: &mut Vec<PlacedName<'s>>, node: &Node<'s>) -> Result<(), Refusal>
+    ensures gathered { let more = own_block_at (node_of node.now) in
+        Gathers more names.old.items result names.new.items }
+    ensures points { StayWithin (λ size. NodeInside size (node_of node.now))
+        names.old.items result names.new.items }
+{
     match node {
-        Node::If { body, other, .. } | Node::For { body, other, .. } => {
-            gather(names, body.as_slice())?;
-            gather(names, other.as_slice())
-        }
         Node::Block(block) => {
             names.push(PlacedName {
                 name: block.name,
                 span: block.span,
             })?;
-            gather(names, block.body.as_slice())
+            Ok(())
         }
-        Node::Capture { body, .. }
-        | Node::FilterSection { body, .. }
-        | Node::ComponentCall { body, .. } => gather(names, body.as_slice()),
-        Node::Content { .. } | Node::Print { .. } | Node::PrintName { .. } => Ok(()),
-        Node::Set { .. } | Node::Include { .. } | Node::Break | Node::Continue => Ok(()),
+        _ => Ok(()),
     }
 }
 

@@ -2,8 +2,15 @@ use Rattle.std.proofs.Common.{◌≡◌, ◌++◌, map, drop}
 use Rattle.tera_syntax_tree.specs.View.{nodes_of}
 use Rattle.tera_syntax_tree.specs.Blocks.{blocks}
 use Rattle.tera_code.specs.Blocks.{block_of, block_listings}
+use Rattle.tera_syntax_tree.proofs.Walks.{node_measure, nodes_measure}
 use Rattle.tera_code.proofs.blocks.+blocks.Given as goal
 
 abbrev pub invariant-add_all-loop-node : goal.invariant-add_all-loop-node
 invariant-add_all-loop-node l =
     map block_of l.found.items ++ block_listings l.file (blocks (nodes_of (drop l.node-index l.nodes))) ≡ map block_of l.initial.found.items ++ block_listings l.file (blocks (nodes_of l.nodes))
+
+abbrev pub decreases-add_all : goal.decreases-add_all
+decreases-add_all l = nodes_measure l.nodes.now
+
+abbrev pub decreases-add : goal.decreases-add
+decreases-add l = node_measure l.node.now

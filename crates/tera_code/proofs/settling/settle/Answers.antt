@@ -1,6 +1,6 @@
 use Rattle.std.proofs.Common.{◌<◌, length, sym, ◌∙◌, arith}
 use Rattle.tera_code.specs.Packed.{tables_of}
-use Rattle.tera_code.proofs.Noted.{none_noted, one_noted, none_more, all_noted}
+use Rattle.tera_code.proofs.Noted.{none_noted, one_noted, none_more}
 use Rattle.tera_code.proofs.settling.settle.Goals as goal
 use Rattle.tera_code.proofs.settling.settle.Goals.{then-has_notes, else-has_notes}
 

@@ -1,43 +1,32 @@
-use Rattle.std.proofs.Common.{◌∷◌, [], ap, sym, ◌∙◌, subst}
-use Rattle.std.proofs.lemmas.List.{map-append}
-use Rattle.std.proofs.lemmas.List.Elements.{All-push, All-same}
-use Rattle.tera_syntax_tree.specs.Inside.{Within}
-use Rattle.tera_syntax.specs.declared.blocks.PlacedName.{PlacedName}
-use Rattle.tera_syntax.specs.View.{Gathers, names_of}
-use Rattle.tera_syntax.proofs.Gathered.{gathered_behind, body_holds, bodies_hold, block_holds}
+use Rattle.std.proofs.Common.{◌++◌, ap₂, sym, ◌∙◌, subst, ◌<◌}
+use Rattle.tera_syntax_tree.specs.Inside.{NodesInside}
+use Rattle.tera_syntax_tree.specs.View.{node_of, nodes_of}
+use Rattle.tera_syntax_tree.proofs.Walks.{falls_to_node, node_measure}
+use Rattle.tera_syntax.specs.Names.{blocks_at, own_block_at}
+use Rattle.tera_syntax.specs.View.{Gathers}
+use Rattle.tera_syntax.proofs.Gathered.{bodies_inside, gathered_behind, gathered_everywhere}
 use Rattle.tera_syntax.proofs.blocks.+names.Goals as goal
 
-pub gather_node-returns-in-Capture-clause-gathered : goal.gather_node-returns-in-Capture-clause-gathered
-gather_node-returns-in-Capture-clause-gathered t c =
-    let h = body_holds c.args.node.now c.in-Capture.body _ c.as_slice-in-Capture.ensures.value c.in-Capture.is in
-    subst (λ names. Gathers names c.args.names.now.items c.gather-in-Capture.result c.gather-in-Capture.new.names.items) (sym h.0) c.gather-in-Capture.ensures.gathered
+pub gather-gather_node-requires : goal.gather-gather_node-requires
+gather-gather_node-requires t c =
+    (subst (λ m. node_measure c.node-item.result < m) c.decreases (falls_to_node c.args.nodes.now c.loop-node.node-index c.node-item.result c.loop-node-test.true c.node-item.is), tt)
 
-pub gather_node-returns-in-Capture-clause-points : goal.gather_node-returns-in-Capture-clause-points
-gather_node-returns-in-Capture-clause-points t c size inside before =
-    let h = body_holds c.args.node.now c.in-Capture.body _ c.as_slice-in-Capture.ensures.value c.in-Capture.is in
-    c.gather-in-Capture.ensures.points size (h.1 size inside) before
+pub gather_node-returns-clause-gathered : goal.gather_node-returns-clause-gathered
+gather_node-returns-clause-gathered t c =
+    let n = node_of c.args.node.now in
+    let body = blocks_at (nodes_of c.body.result.now) in
+    let other = blocks_at (nodes_of c.other.result.now) in
+    let all = ap₂ (λ x y. own_block_at n ++ (blocks_at x ++ blocks_at y)) c.body.ensures c.other.ensures ∙ gathered_everywhere own_block_at n in
+    let old = c.args.names.now.items in
+    let middle = c.gather_own.new.names.items in
+    let new = c.gather-2.new.names.items in
+    let behind = gathered_behind c.gather-2.result middle c.gather.new.names.items new body other c.in_ok-gather.ensures.gathered c.gather-2.ensures.gathered in
+    subst (λ names. Gathers names old c.gather-2.result new) all
+    (gathered_behind c.gather-2.result old middle new (own_block_at n) (body ++ other) c.in_ok-gather_own.ensures.gathered behind)
 
-pub gather_node-returns-in_ok-gather-in-If-clause-gathered : goal.gather_node-returns-in_ok-gather-in-If-clause-gathered
-gather_node-returns-in_ok-gather-in-If-clause-gathered t c =
-    let h = bodies_hold c.args.node.now c.in-If.body c.in-If.other _ _ c.as_slice-in-If.ensures.value c.as_slice-in-If-2.ensures.value c.in-If.is in
-    subst (λ names. Gathers names c.args.names.now.items c.gather-in-If-2.result c.gather-in-If-2.new.names.items) (sym h.0)
-    (gathered_behind _ _ _ _ _ _ c.in_ok-gather-in-If.ensures.gathered c.gather-in-If-2.ensures.gathered)
-
-pub gather_node-returns-in_ok-gather-in-If-clause-points : goal.gather_node-returns-in_ok-gather-in-If-clause-points
-gather_node-returns-in_ok-gather-in-If-clause-points t c size inside before =
-    let h = bodies_hold c.args.node.now c.in-If.body c.in-If.other _ _ c.as_slice-in-If.ensures.value c.as_slice-in-If-2.ensures.value c.in-If.is in
-    let p = h.1 size inside in
-    c.gather-in-If-2.ensures.points size p.1 (c.in_ok-gather-in-If.ensures.points size p.0 before)
-
-pub gather_node-returns-in_ok-push-in-Block-clause-gathered : goal.gather_node-returns-in_ok-push-in-Block-clause-gathered
-gather_node-returns-in_ok-push-in-Block-clause-gathered t c =
-    let h = block_holds c.args.node.now c.in-Block.block _ c.as_slice.ensures.value c.in-Block.is in
-    let pushed = ap names_of c.in_ok-push-in-Block.ensures.items ∙ map-append (λ n. (n.name.now, n.span)) c.args.names.now.items (_ ∷ []) in
-    subst (λ names. Gathers names c.args.names.now.items c.gather.result c.gather.new.names.items) (sym h.0) (gathered_behind _ _ _ _ _ _ pushed c.gather.ensures.gathered)
-
-pub gather_node-returns-in_ok-push-in-Block-clause-points : goal.gather_node-returns-in_ok-push-in-Block-clause-points
-gather_node-returns-in_ok-push-in-Block-clause-points t c size inside before =
-    let h = block_holds c.args.node.now c.in-Block.block _ c.as_slice.ensures.value c.in-Block.is in
-    let p = h.1 size inside in
-    let P : PlacedName → Type 0 = λ n. Within size n.span in
-    c.gather.ensures.points size p.0 (All-same P _ _ c.in_ok-push-in-Block.ensures.items (All-push P c.args.names.now.items _ before p.1))
+pub gather_node-returns-clause-points : goal.gather_node-returns-clause-points
+gather_node-returns-clause-points t c size inside before =
+    let p = bodies_inside size (node_of c.args.node.now) inside in
+    let own = c.in_ok-gather_own.ensures.points size inside before in
+    let body = c.in_ok-gather.ensures.points size (subst (NodesInside size) (sym c.body.ensures) p.0) own in
+    c.gather-2.ensures.points size (subst (NodesInside size) (sym c.other.ensures) p.1) body

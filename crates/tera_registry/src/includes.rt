@@ -1,7 +1,7 @@
 // Whether what a text includes is there.
 ghost use Rattle.std.specs.Prelude.{◌≡◌, is_none};
 ghost use Rattle.std.specs.List.{list_any};
-ghost use Rattle.tera_syntax_tree.specs.Prelude.{definitions_include, definitions_of, includes, node_includes, node_of, nodes_of, tree_of};
+ghost use Rattle.tera_syntax_tree.specs.Prelude.{definitions_include, definitions_of, includes, node_includes, node_of, nodes_of, own_include, tree_of};
 ghost use Rattle.tera_meaning.specs.Prelude.{misses_an_include, resolve};
 ghost use Rattle.tera_registry.specs.Kept.{Rises, entries_of, seen};
 
@@ -73,29 +73,21 @@ fn node_has_missing_include(node: &Node, templates: &[Rc<Template>], prefixes: &
     ensures { let r = seen templates.now prefixes.now in
         result ≡ list_any (λ name. is_none (resolve r name)) (node_includes (node_of node.now)) }
 {
+    if lacks_own_include(node, templates, prefixes) {
+        return true;
+    }
+    nodes_have_missing_include(node.body(), templates, prefixes)
+        || nodes_have_missing_include(node.other(), templates, prefixes)
+}
+
+// Whether the node itself includes what is not there.
+fn lacks_own_include(node: &Node, templates: &[Rc<Template>], prefixes: &[String]) -> bool
+    requires { Rises (entries_of templates.now) }
+    ensures { let r = seen templates.now prefixes.now in
+        result ≡ list_any (λ name. is_none (resolve r name)) (own_include (node_of node.now)) }
+{
     match node {
-        Node::If { body, other, .. } | Node::For { body, other, .. } => {
-            nodes_have_missing_include(body.as_slice(), templates, prefixes)
-                || nodes_have_missing_include(other.as_slice(), templates, prefixes)
-        }
-        Node::Block(block) => nodes_have_missing_include(
-            block.body.as_slice(),
-            templates,
-            prefixes,
-        ),
-        Node::Capture { body, .. }
-        | Node::FilterSection { body, .. }
-        | Node::ComponentCall { body, .. } => nodes_have_missing_include(
-            body.as_slice(),
-            templates,
-            prefixes,
-        ),
         Node::Include { name, .. } => resolve(templates, prefixes, name.as_str()).is_none(),
-        Node::Content { .. }
-        | Node::Print { .. }
-        | Node::PrintName { .. }
-        | Node::Set { .. }
-        | Node::Break
-        | Node::Continue => false,
+        _ => false,
     }
 }

@@ -2,7 +2,8 @@
 ghost use Rattle.std.specs.Prelude.{◌≡◌, ◌++◌, [], ◌∷◌, OnOk, IfOk, IfErr};
 ghost use Rattle.tera_errors.specs.Prelude.{Lacks};
 ghost use Rattle.tera_syntax_tree.specs.Prelude.{definitions_include, definitions_of, node_of, nodes_of, tree_includes, tree_of};
-ghost use Rattle.tera_registry.specs.Naming.{named, node_named};
+ghost use Rattle.tera_syntax_tree.specs.Gathered.{is_entered};
+ghost use Rattle.tera_registry.specs.Naming.{in_blocks, named, node_named, own_name};
 
 use std::alloc::{AllocError, Global};
 use tera_errors::{TeraResult, alloc_result};
@@ -74,28 +75,38 @@ fn add(alloc: Global, naming: Naming, node: &Node, found: &mut Vec<Name>) -> Res
     ensures { OnOk result
         (found.new.items ≡ found.old.items ++ node_named naming (node_of node.now)) }
 {
-    match node {
-        Node::If { body, other, .. } | Node::For { body, other, .. } => {
-            add_all(alloc, naming, body.as_slice(), found)?;
-            add_all(alloc, naming, other.as_slice(), found)
-        }
-        Node::Capture { body, .. }
-        | Node::FilterSection { body, .. }
-        | Node::ComponentCall { body, .. } => add_all(alloc, naming, body.as_slice(), found),
-        Node::Block(block) => match naming {
-            Naming::Includes => add_all(alloc, naming, block.body.as_slice(), found),
-            Naming::TopBlocks => put(alloc, block.name, found),
-        },
-        Node::Include { name, .. } => match naming {
-            Naming::Includes => put(alloc, name.as_str(), found),
-            Naming::TopBlocks => Ok(()),
-        },
-        Node::Content { .. }
-        | Node::Print { .. }
-        | Node::PrintName { .. }
-        | Node::Set { .. }
-        | Node::Break
-        | Node::Continue => Ok(()),
+    add_own(alloc, naming, node, found)?;
+    if enters(naming, node) {
+        add_all(alloc, naming, node.body(), found)?;
+        return add_all(alloc, naming, node.other(), found);
+    }
+    Ok(())
+}
+
+// Whether names of this kind are looked for in the bodies of the node.
+fn enters(naming: Naming, node: &Node) -> bool
+    ensures { result ≡ is_entered (in_blocks naming) (node_of node.now) }
+{
+    match (naming, node) {
+        (Naming::TopBlocks, Node::Block(_)) => false,
+        _ => true,
+    }
+}
+
+// Puts the name that the node itself gives, if it gives one, behind those that were found.
+fn add_own(
+    alloc: Global,
+    naming: Naming,
+    node: &Node,
+    found: &mut Vec<Name>,
+) -> Result<(), AllocError>
+    ensures { OnOk result
+        (found.new.items ≡ found.old.items ++ own_name naming (node_of node.now)) }
+{
+    match (naming, node) {
+        (Naming::Includes, Node::Include { name, .. }) => put(alloc, name.as_str(), found),
+        (Naming::TopBlocks, Node::Block(block)) => put(alloc, block.name, found),
+        _ => Ok(()),
     }
 }
 

@@ -9,6 +9,7 @@ use Rattle.tera.specs.Site.{Text}
 use Rattle.tera.specs.Engine.{Engine}
 use Rattle.tera.specs.Registering.{new_registry_with}
 use Rattle.tera_renderer.specs.Held.{Held, fresh, held_by}
+use Rattle.tera_renderer.specs.Numbers.{floats_if}
 use Rattle.tera_renderer.specs.Outcomes.{Outcome, TellsOf, answer, copied}
 use Rattle.tera_renderer.specs.declared.answer.Answer.{Answer}
 use Rattle.tera_renderer.specs.declared.report.Report.{Report}
@@ -19,7 +20,7 @@ use Rattle.tera_filters.specs.declared.extra_filter.ExtraFilter.{ExtraFilter}
 use Rattle.tera_filters.specs.declared.extra_test.ExtraTest.{ExtraTest}
 use Rattle.tera_filters.specs.declared.extra_function.ExtraFunction.{ExtraFunction}
 use Rattle.tera_filters.specs.declared.no_object.NoObject.{NoObject}
-use Rattle.tera_c.specs.Options.{engine_with, floats_with}
+use Rattle.tera_c.specs.Options.{engine_with}
 use Rattle.tera_c.specs.declared.options.EngineOptions.{EngineOptions}
 use Rattle.tera_c.specs.declared.pack_renderer.PackRenderer.{PackRenderer}
 use Rattle.tera_c.specs.contracts.pack_renderer.PackRenderer.{the_row}
@@ -54,7 +55,7 @@ abbrev pub IsMade : (PackOnly → Engine) → EngineOptions → Option PackRende
 IsMade engine options None told = told ≡ answer 2 0
 IsMade engine options (Some made) told =
     (held_by engine made.renderer
-    ≡ fresh (new_registry_with (engine_with options)) (floats_with options))
+    ≡ fresh (new_registry_with (engine_with options)) (floats_if options.takes_floats))
     × (told ≡ answer 0 0)
 
 -- How a call by a handle ends that copies this of what the last one came to: the engine stays.

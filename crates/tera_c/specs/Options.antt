@@ -1,23 +1,15 @@
 -- What the numbers of a caller in C say.
-use Rattle.std.specs.Prelude.{ℕ, Bool, not, cond, ◌==◌, Option, None, Some}
+use Rattle.std.specs.Prelude.{ℕ, cond, Option, None, Some}
 use Rattle.tera.specs.Site.{Text}
 use Rattle.tera.specs.Engine.{Engine, standard_engine}
 use Rattle.tera.specs.Delimiters.{Delims}
-use Rattle.tera_data.specs.declared.number.Floats.{Floats}
-use Rattle.tera_data.specs.declared.number.Floats.TheVariants as floats
 use Rattle.tera_filters.specs.Pack.{extra_engine}
 use Rattle.tera_filters.specs.declared.clocks.Clock.{Clock}
+use Rattle.tera_renderer.specs.Numbers.{is_set}
 use Rattle.tera_c.specs.declared.options.EngineOptions.{EngineOptions}
-
--- any number but 0 says yes
-abbrev pub is_set : ℕ → Bool
-is_set n = not (n == 0)
 
 abbrev pub given_if : ℕ → Text → Option Text
 given_if n text = cond (is_set n) (Some text) None
-
-abbrev pub floats_with : EngineOptions → Floats
-floats_with o = cond (is_set o.takes_floats) floats.Text floats.Refuse
 
 abbrev pub clock_with : EngineOptions → Option Clock
 clock_with o = cond (is_set o.has_clock) (Some (record { seconds = o.seconds })) None

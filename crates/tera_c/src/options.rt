@@ -1,12 +1,11 @@
 // What a new engine is like.
 ghost use Rattle.std.specs.Prelude.{◌≡◌, Ok};
 ghost use Rattle.tera.specs.Prelude.{Gives};
-ghost use Rattle.tera_c.specs.Options.{clock_with, engine_with, floats_with};
+ghost use Rattle.tera_c.specs.Options.{clock_with, engine_with};
 
 use crate::pack_renderer::PackOnly;
 use std::alloc::Global;
 use tera::{Objects, TeraResult};
-use tera_data::Floats;
 use tera_filters::{Clock, extra_objects};
 
 /// What a new engine is like. All 0 is a good beginning.
@@ -24,17 +23,6 @@ pub struct EngineOptions {
 }
 
 impl EngineOptions {
-    /// What becomes of numbers that are no integers.
-    pub fn floats(&self) -> Floats
-        ensures { result ≡ floats_with self.now }
-    {
-        if self.takes_floats == 0 {
-            Floats::Refuse
-        } else {
-            Floats::Text
-        }
-    }
-
     /// The filters, tests and functions beside those of the language.
     pub fn objects(&self, alloc: Global) -> TeraResult<PackOnly>
         ensures { Gives ⟦<PackOnly as Objects>⟧.engine result (Ok (engine_with self.now)) }

@@ -1,7 +1,8 @@
 // Renderings by a handle.
 ghost use Rattle.std.specs.Prelude.{◌≡◌, option_map};
 ghost use Rattle.tera_c.specs.Held.{ByHandle};
-ghost use Rattle.tera_c.specs.Options.{given_if, is_set};
+ghost use Rattle.tera_c.specs.Options.{given_if};
+ghost use Rattle.tera_renderer.specs.Numbers.{is_set};
 ghost use Rattle.tera_renderer.specs.Meanings.{RendersBlock, RendersComponent, RendersTemplate, RendersText};
 
 use crate::handle::Handle;

@@ -1,6 +1,6 @@
 -- What a question means: what the engine means, at the registry that these templates make and with
 -- the context that this data spells.
-use Rattle.std.specs.Prelude.{◌≡◌, ℕ, zero, suc, ◌==◌, not, Bool, cond, ◌++◌, List, [], ◌∷◌, Some, None, Result, Ok, Err}
+use Rattle.std.specs.Prelude.{◌≡◌, ℕ, zero, suc, cond, ◌++◌, List, [], ◌∷◌, Some, None, Result, Ok, Err}
 use Rattle.tera.specs.Site.{Name, Text}
 use Rattle.tera.specs.Fault.{Fault}
 use Rattle.tera.specs.MeaningRegistry.{Registry}
@@ -10,18 +10,10 @@ use Rattle.tera.specs.Configuring.{with_suffixes}
 use Rattle.tera.specs.Rendering.{ByName, ComponentByName}
 use Rattle.tera.specs.Resolve.{resolve}
 use Rattle.tera.specs.Variables.{AnswersVariables}
-use Rattle.tera_data.specs.declared.number.Floats.{Floats}
-use Rattle.tera_data.specs.declared.number.Floats.TheVariants as floats
 use Rattle.tera_filters.specs.Pack.{extra_engine}
+use Rattle.tera_renderer.specs.Numbers.{is_set, floats_if}
 use Rattle.tera_renderer.specs.Meanings.{AreTheComponents, From, WithData}
 use Rattle.tera_page.specs.declared.question.Question.{Question}
-
--- any number but 0 says yes
-abbrev pub is_set : ℕ → Bool
-is_set n = not (n == 0)
-
-abbrev pub floats_for : Question → Floats
-floats_for q = cond (is_set q.takes_floats) floats.Text floats.Refuse
 
 -- the pack with this clock, and no template; where nothing escapes, no suffix does
 abbrev pub registry_for : Question → Registry
@@ -40,8 +32,8 @@ InLines Meant (Err fault) = Meant (Err fault)
 
 -- what is asked of a registry, by the number that says what
 abbrev pub AsksFor : ℕ → Question → Name → Text → Registry → Result Text Fault → Type 0
-AsksFor zero q name json r = WithData (floats_for q) json (ByName r name)
-AsksFor (suc zero) q name json r = WithData (floats_for q) json
+AsksFor zero q name json r = WithData (floats_if q.takes_floats) json (ByName r name)
+AsksFor (suc zero) q name json r = WithData (floats_if q.takes_floats) json
     (λ arguments. ComponentByName r name arguments [] None (is_set q.autoescape))
 AsksFor (suc (suc zero)) q name json r = InLines (AnswersVariables r (resolve r name))
 AsksFor (suc (suc (suc n))) q name json r = InLines (AreTheComponents r)

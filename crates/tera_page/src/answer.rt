@@ -7,7 +7,7 @@ use std::fmt::Write;
 use tera::Error;
 use tera_renderer::answer::copy_text;
 use tera_renderer::report::report_of_error;
-use tera_renderer::{Answer, Report};
+use tera_renderer::{Answer, Report, placeless};
 
 /// How the call ended: what lies in the room, and why it made no text.
 #[repr(C)]
@@ -21,15 +21,6 @@ pub struct PageAnswer {
     pub template: usize,
 }
 
-const NO_REPORT: Report = Report {
-    kind: 0,
-    has_span: 0,
-    start: 0,
-    end: 0,
-    line: 0,
-    column: 0,
-};
-
 /// The answer where a text was made, which goes into the room.
 pub fn answer_with(text: &str, template: usize, room: &mut [u8]) -> PageAnswer
     ensures copied { (result.copied, room.new) ≡ copied (Some text.now) room.old }
@@ -39,7 +30,7 @@ pub fn answer_with(text: &str, template: usize, room: &mut [u8]) -> PageAnswer
 {
     PageAnswer {
         copied: copy_text(Some(text), room),
-        report: NO_REPORT,
+        report: placeless(0),
         template,
     }
 }

@@ -1,11 +1,10 @@
 // What a page asks for.
 ghost use Rattle.std.specs.Prelude.{◌≡◌, Ok};
 ghost use Rattle.tera.specs.Prelude.{Gives, registry_of};
-ghost use Rattle.tera_page.specs.Questions.{floats_for, registry_for};
+ghost use Rattle.tera_page.specs.Questions.{registry_for};
 
 use std::alloc::Global;
 use tera::{Objects, TeraOver, TeraResult};
-use tera_data::Floats;
 use tera_filters::{Clock, NoObject, PackObjects, extra_objects};
 
 /// The filters, tests and functions of the pack, and none beside them.
@@ -27,17 +26,6 @@ pub struct Question {
 }
 
 impl Question {
-    /// What becomes of numbers that are no integers.
-    pub fn floats(&self) -> Floats
-        ensures { result ≡ floats_for self.now }
-    {
-        if self.takes_floats == 0 {
-            Floats::Refuse
-        } else {
-            Floats::Text
-        }
-    }
-
     /// An engine under these settings, without templates.
     pub fn engine(&self, alloc: Global) -> TeraResult<TeraOver<PageObjects>>
         ensures { Gives (registry_of ⟦<PageObjects as Objects>⟧.engine) result

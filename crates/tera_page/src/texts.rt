@@ -10,6 +10,7 @@ use std::alloc::{AllocError, Global};
 use std::collections::BTreeSet;
 use tera::{Context, Objects, TeraOver, TeraResult};
 use tera_data::{json_context, text_of};
+use tera_renderer::floats_if;
 
 /// What the question asks for of these templates, with a name and data in JSON.
 pub fn text_for(
@@ -41,11 +42,11 @@ fn text_by(
 {
     match question.subject {
         0 => {
-            let context = json_context(alloc, json, question.floats())?;
+            let context = json_context(alloc, json, floats_if(question.takes_floats))?;
             engine.render(name, &context)
         }
         1 => {
-            let arguments = json_context(alloc, json, question.floats())?;
+            let arguments = json_context(alloc, json, floats_if(question.takes_floats))?;
             let implicits = Context::new(alloc);
             let autoescape = question.autoescape != 0;
             engine.render_component(name, &arguments, &implicits, None, autoescape)

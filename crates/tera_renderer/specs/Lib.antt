@@ -2,3 +2,4 @@ pub mod Outcomes
 pub mod Held
 pub mod Calls
 pub mod Meanings
+pub mod Numbers

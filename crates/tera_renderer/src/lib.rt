@@ -4,6 +4,7 @@
 
 pub mod answer;
 pub mod naming;
+pub mod numbers;
 pub mod one_off;
 pub mod output;
 pub mod renderer;
@@ -12,7 +13,8 @@ pub mod report;
 pub mod settings;
 
 pub use answer::{Answer, NO_RENDERER};
+pub use numbers::floats_if;
 pub use one_off::render_once;
 pub use output::CallOutput;
 pub use renderer::Renderer;
-pub use report::Report;
+pub use report::{Report, placeless};

@@ -121,7 +121,8 @@ fn report_at(kind: u32, report: &ReportError) -> Report
     }
 }
 
-fn placeless(kind: u32) -> Report
+/// A report that tells of no file and no place.
+pub fn placeless(kind: u32) -> Report
     ensures { result ≡ record {
       kind = kind;
       has_span = 0;

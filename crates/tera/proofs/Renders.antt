@@ -58,7 +58,7 @@ free-gives : {X : Type 0} (view : X → Text) (result : Result X SeenError) (b :
 free-gives view result true meant h g = (let q : Err message ≡ Ok tt = h in cc)
 free-gives view result false meant h g = g
 
-told-says : {Y : Type 0} (e : SeenError) (done : Result Y Fault) → Tells e message → done ≡ Err message → Says e done
+pub told-says : {Y : Type 0} (e : SeenError) (done : Result Y Fault) → Tells e message → done ≡ Err message → Says e done
 told-says None done t h = tt
 told-says (Some fault) done t h = h ∙ ap Err (sym t)
 

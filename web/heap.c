@@ -116,6 +116,20 @@ Tried rattle_realloc(void *at, u64 kept, u64 bytes, u64 align)
     return (Tried){1, moved};
 }
 
+// What stands in place of each function that a module leaves out (`cut.py`): the call ends there, and the page is told why.
+static int lacks_part;
+
+_Noreturn void page_part_is_left_out(void)
+{
+    lacks_part = 1;
+    __builtin_trap();
+}
+
+int page_lacks_part(void)
+{
+    return lacks_part;
+}
+
 void *memcpy(void *to, const void *from, u64 bytes)
 {
     return __builtin_memcpy(to, from, bytes);

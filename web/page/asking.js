@@ -9,6 +9,17 @@ function bytesOf(packed) {
     return bytes;
 }
 
+// Runs a script that lies beside the page, which it may do where the page is opened from a file, too.
+function runScript(name) {
+    const script = document.createElement("script");
+    script.src = name;
+    document.head.append(script);
+    return new Promise((resolve, reject) => {
+        script.onload = resolve;
+        script.onerror = () => reject(new Error(`${name} cannot be loaded`));
+    });
+}
+
 // The engine, as the page asks it.
 class Engine {
     // A question that has no answer after so many milliseconds is given up.
@@ -17,26 +28,54 @@ class Engine {
         this.asked = 0;
         this.source = URL.createObjectURL(new Blob([`(${engineWorker})()`], { type: "text/javascript" }));
         this.module = Engine.compile(ENGINE);
+        this.whole = null;
         this.start();
     }
 
-    // ENGINE is the module, packed by gzip and written in base64.
+    // A module is packed by gzip and written in base64.
     static compile(packed) {
         const stream = new Blob([bytesOf(packed)]).stream().pipeThrough(new DecompressionStream("gzip"));
         return WebAssembly.compileStreaming(new Response(stream, { headers: { "Content-Type": "application/wasm" } }));
     }
 
     start() {
-        const worker = new Worker(this.source);
-        this.worker = worker;
-        this.isReady = this.module.then(module => new Promise(resolve => {
-            worker.addEventListener("message", resolve, { once: true });
-            worker.postMessage(module);
-        }));
+        this.worker = new Worker(this.source);
+        this.isReady = this.module.then(module => this.handOver(module));
     }
 
-    // What the engine answers; or that it lacked `time`, and then its Worker is another from here on.
+    // Gives the Worker the module of which it is asked from here on.
+    handOver(module) {
+        const { worker } = this;
+        return new Promise(resolve => {
+            worker.addEventListener("message", resolve, { once: true });
+            worker.postMessage(module);
+        });
+    }
+
+    // Takes the whole module in place of the first, which leaves out what few templates need.
+    async takeWhole() {
+        await runScript("whole.js");
+        const module = await Engine.compile(WHOLE);
+        this.module = Promise.resolve(module);
+        this.isReady = this.handOver(module);
+    }
+
+    // What the engine answers; or that it lacked `time`, and then its Worker is another from here on. Where a question reaches what the first
+    // module leaves out, it is asked once more, of the whole one. The time to load that does not count.
     async ask(question) {
+        const answer = await this.askOnce(question);
+        if (answer.lacks !== "part") return answer;
+        this.whole ??= this.takeWhole();
+        try {
+            await this.whole;
+        } catch (error) {
+            this.whole = null;
+            return { failed: error.message };
+        }
+        return this.askOnce(question);
+    }
+
+    async askOnce(question) {
         await this.isReady;
         const { worker } = this, number = ++this.asked;
         return new Promise(resolve => {

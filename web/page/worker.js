@@ -16,6 +16,7 @@ function engineWorker() {
     let module;
 
     class OutOfMemory extends Error {}
+    class LacksPart extends Error {}
 
     class Call {
         constructor() {
@@ -41,6 +42,15 @@ function engineWorker() {
             const at = this.place(bytes.length);
             this.view(at, bytes.length).set(bytes);
             return [at, BigInt(bytes.length)];
+        }
+
+        // The engine's own call. It traps where it comes to a function that this module leaves out, too, and then says so.
+        ask(...given) {
+            try {
+                this.engine.tera_page(...given);
+            } catch (error) {
+                throw this.engine.page_lacks_part() ? new LacksPart() : error;
+            }
         }
 
         question({ subject, autoescape, decimals, seconds }) {
@@ -90,12 +100,12 @@ function engineWorker() {
             call.question(question), ...call.templates(question.templates),
             ...call.put(utf8.encode(question.name)), ...call.put(utf8.encode(question.json)),
         ];
-        call.engine.tera_page(at, ...given, out, BigInt(room));
+        call.ask(at, ...given, out, BigInt(room));
         const answer = call.answer(at, out, question.templates);
         return answer.status === TOO_SMALL ? answerIn(answer.size, question) : answer;
     }
 
-    // A text or a fault; or what the engine had too little of, `memory` or `stack`.
+    // A text or a fault; or what the engine had too little of, `memory` or `stack`; or that this module lacks a `part` of it.
     function answerTo(question) {
         try {
             const { status, text, fault } = answerIn(65536, question);
@@ -103,7 +113,8 @@ function engineWorker() {
             return fault ? { fault: { ...fault, words: text } } : { text };
         } catch (error) {
             if (error instanceof OutOfMemory) return { lacks: "memory" };
-            // The engine's own functions trap nowhere, so a trap says that they came to the end of a stack.
+            if (error instanceof LacksPart) return { lacks: "part" };
+            // The engine's own functions trap nowhere, so any other trap says that they came to the end of a stack.
             const isDeep = error instanceof RangeError || error.name === "InternalError" || error instanceof WebAssembly.RuntimeError;
             return isDeep ? { lacks: "stack" } : { failed: String(error) };
         }

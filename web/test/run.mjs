@@ -100,16 +100,92 @@ async function testMark(browser) {
 }
 
 async function testLimits(browser) {
-    const loops = "{% for i in range(end=100000) %}{% for j in range(end=100000) %}{% endfor %}{% endfor %}";
-    const begun = Date.now(), late = await showText(browser, loops), took = Date.now() - begun;
+    await open(browser);
+    const begun = Date.now(), late = await showText(browser, LACKING.time), took = Date.now() - begun;
     tell("two nested loops of 100,000 are ended", late.lacks === "time" && took < 12000, inWords({ lacks: late.lacks, took }));
     tell("the page goes on after them", await isAlive(browser));
-    const doubled = await showText(browser, `{% set a = "ab" %}${"{% set a = a ~ a %}".repeat(40)}{{ a }}`);
+    const doubled = await showText(browser, LACKING.memory);
     tell("a text that is doubled 40 times", doubled.lacks === "memory", inWords(doubled).slice(0, 200));
     tell("the page goes on after it", await isAlive(browser));
-    const deep = await showText(browser, "{% set a = [] %}{% for i in range(end=100000) %}{% set_global a = [a] %}{% endfor %}{{ a }}");
+    const deep = await showText(browser, LACKING.stack);
     tell("a value of 100,000 levels", deep.lacks === "stack", inWords(deep).slice(0, 200));
     tell("the page goes on after it", await isAlive(browser));
+    tell("none of this needs the second script", !(await isWholeThere(browser)));
+}
+
+// Templates that reach what the first module leaves out, with what they render to.
+const WHOLE = [
+    ['{{ "a1b22" | regex_replace(pattern="[0-9]+", rep="#") }}', "a#b#"],
+    ['{{ "Bergen" is matching(pat="^B.*n$") }}', "true"],
+    ['{{ "Crème Brûlée!" | slugify }}', "creme-brulee"],
+    ['{{ "2024-05-31T10:20:30Z" | date(format="%d %B %Y") }}', "31 May 2024"],
+    ['{{ 86400 | date }}', "1970-01-02"],
+    ['{{ "don\'t stop-me" | title | safe }}', "Don't Stop-Me"],
+    ['{{ "abc" | md5 }}', "900150983cd24fb0d6963f7d28e17f72"],
+    ['{{ "abc" | sha256 }}', "ba7816bf8f01cfea414140de5dae2223b00361a396177a9cb410ff61f20015ad"],
+    ['{{ "abc" | b64encode }} {{ "YWJj" | b64decode }}', "YWJj abc"],
+];
+// Templates of which the first module has all, though they speak of such things.
+const FIRST = [
+    ['{{ "straße" | upper }} {{ "ÅSE" | capitalize }}', "STRASSE Åse"],
+    ['{% for c in "e\u0301🇳🇴" %}{{ c }},{% endfor %}', "e\u0301,🇳🇴,"],
+    ['{{ "日本語" | truncate(length=2) }}', "日本…"],
+    ['{{ "a b" | urlencode }} {{ 1500 | filesizeformat }}', "a%20b 1.50 kB"],
+    ["{{ [1, none] | json_encode }}", "[1,null]"],
+    ['{% if false %}{{ "a" is matching(pat="a") }}{% endif %}', ""],
+];
+const LACKING = {
+    time: "{% for i in range(end=100000) %}{% for j in range(end=100000) %}{% endfor %}{% endfor %}",
+    memory: `{% set a = "ab" %}${"{% set a = a ~ a %}".repeat(40)}{{ a }}`,
+    stack: "{% set a = [] %}{% for i in range(end=100000) %}{% set_global a = [a] %}{% endfor %}{{ a }}",
+};
+
+const isWholeThere = browser => browser.run(`return page.engine.whole !== null || document.querySelector("script[src='whole.js']") !== null;`);
+
+// What is wrong with the answers to these templates.
+async function wrongAnswers(browser, rows) {
+    const others = [];
+    for (const [text, wanted] of rows) {
+        const answer = await showText(browser, text);
+        if (answer.text !== wanted) others.push({ text, wanted, answer });
+    }
+    return others;
+}
+
+// The whole module is loaded by the first question that needs it, and by no other; and what it lacks is told as before.
+async function testWholeModule(browser) {
+    await open(browser);
+    const told = await wrongAnswers(browser, FIRST);
+    tell(`${FIRST.length} templates that need no second script`, told.length === 0 && !(await isWholeThere(browser)), told.map(inWords).join("\n"));
+    for (const row of WHOLE) {
+        await open(browser);
+        const isThere = await isWholeThere(browser), others = await wrongAnswers(browser, [row]);
+        const isFine = !isThere && others.length === 0 && await isWholeThere(browser);
+        tell(`the second script answers ${row[0]}`, isFine && await isAlive(browser), others.map(inWords).join("\n"));
+    }
+    const again = await wrongAnswers(browser, [...WHOLE, ...FIRST]);
+    tell("the whole module answers all of these", again.length === 0, again.map(inWords).join("\n"));
+    for (const [lack, text] of Object.entries(LACKING)) {
+        const { lacks } = await showText(browser, text);
+        tell(`the whole module lacks ${lack}, and the page goes on`, lacks === lack && await isAlive(browser), lacks ?? "");
+    }
+    const behind = await wrongAnswers(browser, WHOLE);
+    tell("it is still the whole module after that", behind.length === 0, behind.map(inWords).join("\n"));
+}
+
+// The limits count for each question alone, and so they do where the second script is loaded in between.
+async function testLimitsWithSecondScript(browser) {
+    const needs = '{{ "a" is matching(pat="a") }}';
+    for (const [lack, text] of Object.entries(LACKING)) {
+        await open(browser);
+        const { lacks } = await showText(browser, needs + text);
+        tell(`a template that needs the second script, and lacks ${lack}`, lacks === lack && await isWholeThere(browser) && await isAlive(browser), lacks ?? "");
+    }
+    await open(browser);
+    const answers = await browser.run(`
+        const ask = text => page.engine.ask({ templates: [{ name: "a", text }], subject: "template", name: "a", json: "{}", autoescape: true, decimals: false, seconds: 0 });
+        return await Promise.all(${inWords([needs, "{{ 1 }}", needs + needs])}.map(ask));`);
+    tell("three questions at once, of which two need it", answers.map(({ text }) => text).join() === "true,1,truetrue", inWords(answers));
 }
 
 // A server of this machine that counts what is asked of it.
@@ -238,7 +314,10 @@ async function testWithTables(browser) {
 
 const browser = await Browser.start();
 try {
-    for (const test of [testOpening, testExamples, testFaults, testMark, testLimits, testHostileData, testLink, testKeyboard, testTabs, takePictures]) {
+    for (const test of [
+        testOpening, testExamples, testFaults, testMark, testLimits, testWholeModule, testLimitsWithSecondScript, testHostileData, testLink, testKeyboard, testTabs,
+        takePictures,
+    ]) {
         try {
             await test(browser);
         } catch (error) {
@@ -246,6 +325,11 @@ try {
         }
     }
     await open(browser);
+    await testWithTables(browser);
+    for (const scriptFolder of scripts) await testWithScripts(browser, scriptFolder);
+    tell("no table and no script needs the second script", !(await isWholeThere(browser)));
+    await wrongAnswers(browser, WHOLE);
+    tell("the same of the whole module", await isWholeThere(browser));
     await testWithTables(browser);
     for (const scriptFolder of scripts) await testWithScripts(browser, scriptFolder);
 } finally {

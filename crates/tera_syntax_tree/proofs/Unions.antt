@@ -115,6 +115,11 @@ ok-then (Err e) f h = tt
 pub two : (r : Result (Unit {0}) AllocError) (p q l m n : Names) → m ≡ q ∪ l → OnOk r (n ≡ p ∪ m) → OnOk r (n ≡ (p ∪ q) ∪ l)
 two r p q l m n h g = ok-then r (λ e. e ∙ ap (λ x. p ∪ x) h ∙ sym (union-assoc p q l)) g
 
+-- first the third of three, and then the second
+pub three : (r : Result (Unit {0}) AllocError) (p q s l m o n : Names) → m ≡ s ∪ l → o ≡ q ∪ m → OnOk r (n ≡ p ∪ o) → OnOk r (n ≡ (p ∪ (q ∪ s)) ∪ l)
+three r p q s l m o n first second third =
+    ok-then r (λ e. e ∙ ap (λ x. p ∪ x) (second ∙ ap (λ x. q ∪ x) first ∙ sym (union-assoc q s l)) ∙ sym (union-assoc p (q ∪ s) l)) third
+
 -- what a comprehension adds, whose own names go
 pub comprehended : (r : Result (Unit {0}) AllocError) (v c t s l m i0 i1 i2 i3 n : Names) → m ≡ t ∪ l → i0 ≡ nobody → i1 ≡ c ∪ i0 → i2 ≡ v ∪ i1 → i3 ≡ i2 ∖ s → OnOk r (n ≡ i3 ∪ m) → OnOk r (n ≡ (((v ∪ c) ∖ s) ∪ t) ∪ l)
 comprehended r v c t s l m i0 i1 i2 i3 n hm h0 h1 h2 h3 g =

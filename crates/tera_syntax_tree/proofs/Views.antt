@@ -23,7 +23,7 @@ use Rattle.tera_syntax_tree.specs.declared.node.Block as block
 use Rattle.tera_syntax_tree.specs.declared.node.Captured.{Captured}
 use Rattle.tera_syntax_tree.specs.declared.node.SectionFilter.{SectionFilter}
 use Rattle.tera_syntax_tree.specs.declared.node.Node.TheVariants as variant
-use Rattle.tera_syntax_tree.specs.Tree.{Array, Map, Super, Filter, Test, Call, Component, ArrayLiteral, MapLiteral, MoreLiterals, MoreLiteralEntries, MoreItems, MoreEntries, MoreArguments, If, FilterSection, For, Block, MoreNodes}
+use Rattle.tera_syntax_tree.specs.Tree.{Array, Map, Super, Filter, Test, Call, Component, ArrayLiteral, MapLiteral, MoreLiterals, MoreLiteralEntries, MoreItems, MoreEntries, MoreArguments, If, FilterSection, For, Block, MoreNodes, body_of, other_of, filters_in, attributes_in}
 use Rattle.tera_syntax_tree.specs.View.{literal_of, literal_option, expr_of, row_items, items_of, row_entries, entries_of, row_arguments, arguments_of, written_of, row_literals, literals_of, row_literal_entries, literal_entries_of, applied_of, called_of, tag_of, comprehension_of, slice_of, filters_of, capture_of, component_call_of, node_of, row_nodes, nodes_of, for_of}
 
 pub items_row : (m : _) (row : Row_of-Item m) → row_items row ≡ items_of (items-the_row-Item m row)
@@ -171,6 +171,41 @@ view_for h body other =
 pub view_component_call : (t : Box ComponentTag Global) (body : Vec declared.Node Global) (span : Span) → node_of (variant.ComponentCall t body span) ≡ component_call_of t.value (nodes_of body.items) span
 view_component_call t body span =
     ap (λ x. component_call_of t.value x span) (nodes_is (body_in (variant.ComponentCall t body span)) body (items_hidden-the_row-Node-0 body))
+
+-- What stands in a node, as it is seen where it is lent
+
+pub body_of_if : (node : declared.Node) (c : Box Expression Global) (body other : Vec declared.Node Global) (xs : List declared.Node) → node ≡ variant.If c body other → xs ≡ body.items → nodes_of xs ≡ body_of (node_of node)
+body_of_if node c body other xs is e = ap nodes_of e ∙ sym (ap body_of (ap node_of is ∙ view_if c body other))
+
+pub body_of_capture : (node : declared.Node) (is_global : Bool) (c : Box Captured Global) (body : Vec declared.Node Global) (xs : List declared.Node) → node ≡ variant.Capture is_global c body → xs ≡ body.items → nodes_of xs ≡ body_of (node_of node)
+body_of_capture node is_global c body xs is e = ap nodes_of e ∙ sym (ap body_of (ap node_of is ∙ view_capture is_global c body))
+
+pub body_of_section : (node : declared.Node) (fs : Vec SectionFilter Global) (body : Vec declared.Node Global) (xs : List declared.Node) → node ≡ variant.FilterSection fs body → xs ≡ body.items → nodes_of xs ≡ body_of (node_of node)
+body_of_section node fs body xs is e = ap nodes_of e ∙ sym (ap body_of (ap node_of is ∙ view_section fs body))
+
+pub body_of_for : (node : declared.Node) (h : Box Heading Global) (body other : Vec declared.Node Global) (xs : List declared.Node) → node ≡ variant.For h body other → xs ≡ body.items → nodes_of xs ≡ body_of (node_of node)
+body_of_for node h body other xs is e = ap nodes_of e ∙ sym (ap body_of (ap node_of is ∙ view_for h body other))
+
+pub body_of_block : (node : declared.Node) (b : block.Block) (xs : List declared.Node) → node ≡ variant.Block b → xs ≡ b.body.items → nodes_of xs ≡ body_of (node_of node)
+body_of_block node b xs is e = ap nodes_of e ∙ sym (ap body_of (ap node_of is ∙ view_block b))
+
+pub body_of_call : (node : declared.Node) (t : Box ComponentTag Global) (body : Vec declared.Node Global) (span : Span) (xs : List declared.Node) → node ≡ variant.ComponentCall t body span → xs ≡ body.items → nodes_of xs ≡ body_of (node_of node)
+body_of_call node t body span xs is e = ap nodes_of e ∙ sym (ap body_of (ap node_of is ∙ view_component_call t body span))
+
+pub other_of_if : (node : declared.Node) (c : Box Expression Global) (body other : Vec declared.Node Global) (xs : List declared.Node) → node ≡ variant.If c body other → xs ≡ other.items → nodes_of xs ≡ other_of (node_of node)
+other_of_if node c body other xs is e = ap nodes_of e ∙ sym (ap other_of (ap node_of is ∙ view_if c body other))
+
+pub other_of_for : (node : declared.Node) (h : Box Heading Global) (body other : Vec declared.Node Global) (xs : List declared.Node) → node ≡ variant.For h body other → xs ≡ other.items → nodes_of xs ≡ other_of (node_of node)
+other_of_for node h body other xs is e = ap nodes_of e ∙ sym (ap other_of (ap node_of is ∙ view_for h body other))
+
+pub filters_in_capture : (node : declared.Node) (is_global : Bool) (c : Box Captured Global) (body : Vec declared.Node Global) (fs : List SectionFilter) → node ≡ variant.Capture is_global c body → fs ≡ c.value.filters.items → filters_of fs ≡ filters_in (node_of node)
+filters_in_capture node is_global c body fs is e = ap filters_of e ∙ sym (ap filters_in (ap node_of is ∙ view_capture is_global c body))
+
+pub filters_in_section : (node : declared.Node) (all : Vec SectionFilter Global) (body : Vec declared.Node Global) (fs : List SectionFilter) → node ≡ variant.FilterSection all body → fs ≡ all.items → filters_of fs ≡ filters_in (node_of node)
+filters_in_section node all body fs is e = ap filters_of e ∙ sym (ap filters_in (ap node_of is ∙ view_section all body))
+
+pub attributes_in_call : (node : declared.Node) (t : Box ComponentTag Global) (body : Vec declared.Node Global) (span : Span) (es : List entry.EntryExpression) → node ≡ variant.ComponentCall t body span → es ≡ (out-ComponentTag t.value).attributes.items → entries_of es ≡ attributes_in (node_of node)
+attributes_in_call node t body span es is e = ap entries_of e ∙ sym (ap attributes_in (ap node_of is ∙ view_component_call t body span))
 
 pub view_array_literal : (all : Vec declared_literal.Literal Global) → written_of (written.Array all) ≡ ArrayLiteral (literals_of all.items)
 view_array_literal all =

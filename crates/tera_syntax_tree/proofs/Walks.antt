@@ -2,46 +2,30 @@
 use Rattle.std.proofs.Common.{◌≡◌, ℕ, zero, suc, ◌+◌, ◌*◌, ◌<◌, Bool, true, false, ◌||◌, List, [], ◌∷◌, ◌++◌, length, get_or, if◌then◌else◌, Result, Ok, Err, OnOk, append_assoc, refl, map, ap, ap₂, ◌∙◌, arith}
 use Rattle.tera_errors.specs.Site as site
 use Rattle.tera_syntax_tree.specs.declared.node.Node as declared
-use Rattle.std.proofs.lemmas.List.{append-nil, map-append}
-use mathlib.Core.Path.{fun_ext}
-use Rattle.tera_syntax_tree.specs.Free.{Names, nobody, binds, node_binds, own_binds, set_binds, ◌∪◌}
-use Rattle.tera_syntax_tree.specs.Gathered.{gathered, node_gathered, is_entered}
-use Rattle.tera_syntax_tree.specs.Blocks.{blocks, node_blocks, top_blocks, node_top_blocks}
-use Rattle.tera_syntax_tree.specs.Depth.{node_depth, nodes_depth}
-use Rattle.tera_syntax_tree.specs.Tree.{Node, Content, Print, If, Set, Capture, FilterSection, For, Block, Include, ComponentCall, Break, Continue, Nodes, NoNodes, MoreNodes, body_of, other_of}
+use Rattle.std.proofs.lemmas.List.{map-append}
+use Rattle.tera_syntax_tree.specs.Free.{Names, nobody, tag_free, body_names, is_loop, own_binds, bind_node, bind_first, node_binds, binds, free_node, free_first, node_free, free, ◌∪◌, ◌∖◌}
+use Rattle.tera_syntax_tree.specs.Gathered.{gather_node, gather_first, gathered, node_gathered, is_entered}
+use Rattle.tera_syntax_tree.specs.Blocks.{own_block, own_block_name, blocks, top_blocks}
+use Rattle.tera_syntax_tree.specs.Depth.{deepen, deepest, node_depth, nodes_depth}
+use Rattle.tera_syntax_tree.specs.Tree.{Node, Content, Print, If, Set, Capture, FilterSection, For, Block, Include, ComponentCall, Break, Continue, Nodes, NoNodes, MoreNodes, body_of, other_of, fold_node, fold}
 use Rattle.tera_syntax_tree.specs.View.{node_of, nodes_of}
+
+-- a node is made of what stands in its tag and of its bodies
+pub fold_of_bodies {ℓ} : {A : Type ℓ} (own : Node → A → A → A) (none : A) (put : Node → A → A → A) (n : Node) → own n (fold own none put (body_of n)) (fold own none put (other_of n)) ≡ fold_node own none put n
+fold_of_bodies own none put Break = refl
+fold_of_bodies own none put _ = refl
 
 -- the bodies of a node are less deep than the node
 pub body_is_below : (n : Node) → nodes_depth (body_of n) < node_depth n
-body_is_below (If c body other) = omega arith
-body_is_below (Capture n fs body is_global) = omega arith
-body_is_below (FilterSection fs body) = omega arith
-body_is_below (For key n e body other) = omega arith
-body_is_below (Block n body span) = omega arith
-body_is_below (ComponentCall n all body span) = omega arith
-body_is_below _ = omega arith
+body_is_below n = let e = fold_of_bodies deepen 0 deepest n in omega (arith, e)
 
 pub other_is_below : (n : Node) → nodes_depth (other_of n) < node_depth n
-other_is_below (If c body other) = omega arith
-other_is_below (For key n e body other) = omega arith
-other_is_below _ = omega arith
+other_is_below n = let e = fold_of_bodies deepen 0 deepest n in omega (arith, e)
 
 -- what is gathered from a node is what it gives by itself and what its bodies give, where they are entered
 pub gathered_of_bodies : {A : Type 0} (in_blocks : Bool) (own : Node → List A) (n : Node)
     → own n ++ (if is_entered in_blocks n then gathered in_blocks own (body_of n) ++ gathered in_blocks own (other_of n) else []) ≡ node_gathered in_blocks own n
-gathered_of_bodies in_blocks own (If c body other) = refl
-gathered_of_bodies in_blocks own (For key n e body other) = refl
-gathered_of_bodies in_blocks own (Capture n fs body is_global) = ap (λ x. own (Capture n fs body is_global) ++ x) (append-nil (gathered in_blocks own body))
-gathered_of_bodies in_blocks own (FilterSection fs body) = ap (λ x. own (FilterSection fs body) ++ x) (append-nil (gathered in_blocks own body))
-gathered_of_bodies in_blocks own (ComponentCall n all body span) = ap (λ x. own (ComponentCall n all body span) ++ x) (append-nil (gathered in_blocks own body))
-gathered_of_bodies true own (Block n body span) = ap (λ x. own (Block n body span) ++ x) (append-nil (gathered true own body))
-gathered_of_bodies false own (Block n body span) = refl
-gathered_of_bodies in_blocks own (Content t span) = append-nil (own (Content t span))
-gathered_of_bodies in_blocks own (Print e) = append-nil (own (Print e))
-gathered_of_bodies in_blocks own (Set n e is_global) = append-nil (own (Set n e is_global))
-gathered_of_bodies in_blocks own (Include n span) = append-nil (own (Include n span))
-gathered_of_bodies in_blocks own Break = append-nil (own Break)
-gathered_of_bodies in_blocks own Continue = append-nil (own Continue)
+gathered_of_bodies in_blocks own n = fold_of_bodies (gather_node in_blocks own) [] gather_first n
 
 -- what is found where a walk finds what a node gives by itself, and then what is in its bodies
 pub found_in_turn : {B E : Type 0} (old middle last new own body other whole : List B) (r : Result (Unit {0}) E) → own ++ (body ++ other) ≡ whole
@@ -54,76 +38,62 @@ found_in_turn old middle last new own body other whole (Ok done) is first second
     ∙ ap (λ x. old ++ x) is
 found_in_turn old middle last new own body other whole (Err e) is first second third = tt
 
--- what each thing that is gathered is seen as may be gathered as well
-module _ {A B : Type 0} (f : A → B) (own : Node → List A) (seen : Node → List B) (same : (n : Node) → map f (own n) ≡ seen n) where
-  behind : (n : Node) (xs : List A) {ys : List B} → map f xs ≡ ys → map f (own n ++ xs) ≡ seen n ++ ys
-  behind n xs e = map-append f (own n) xs ∙ ap₂ (λ x y. x ++ y) (same n) e
-
-  joined : (body other : List A) {xs ys : List B} → map f body ≡ xs → map f other ≡ ys → map f (body ++ other) ≡ xs ++ ys
-  joined body other a b = map-append f body other ∙ ap₂ (λ x y. x ++ y) a b
-
+-- What two folds make of the same nodes is in a relation, where what they make of no nodes is, and where their steps keep it.
+module _ {A B : Type 0} (Related : A → B → Type 0) (own : Node → A → A → A) (none : A) (put : Node → A → A → A) (own' : Node → B → B → B) (none' : B) (put' : Node → B → B → B)
+    (same_none : Related none none') (same_own : (n : Node) (x y : A) (x' y' : B) → Related x x' → Related y y' → Related (own n x y) (own' n x' y'))
+    (same_put : (n : Node) (x y : A) (x' y' : B) → Related x x' → Related y y' → Related (put n x y) (put' n x' y')) where
   mutual
-    node_gathered_map : (n : Node) → map f (node_gathered true own n) ≡ node_gathered true seen n
-    node_gathered_map (If c body other) = behind (If c body other) _ (joined _ _ (gathered_map body) (gathered_map other))
-    node_gathered_map (For key n e body other) = behind (For key n e body other) _ (joined _ _ (gathered_map body) (gathered_map other))
-    node_gathered_map (Capture n fs body is_global) = behind (Capture n fs body is_global) _ (gathered_map body)
-    node_gathered_map (FilterSection fs body) = behind (FilterSection fs body) _ (gathered_map body)
-    node_gathered_map (Block n body span) = behind (Block n body span) _ (gathered_map body)
-    node_gathered_map (ComponentCall n all body span) = behind (ComponentCall n all body span) _ (gathered_map body)
-    node_gathered_map (Content t span) = same (Content t span)
-    node_gathered_map (Print e) = same (Print e)
-    node_gathered_map (Set n e is_global) = same (Set n e is_global)
-    node_gathered_map (Include n span) = same (Include n span)
-    node_gathered_map Break = same Break
-    node_gathered_map Continue = same Continue
+    node_folds : (n : Node) → Related (fold_node own none put n) (fold_node own' none' put' n)
+    node_folds (If c body other) = same_own (If c body other) _ _ _ _ (folds body) (folds other)
+    node_folds (For key n e body other) = same_own (For key n e body other) _ _ _ _ (folds body) (folds other)
+    node_folds (Capture n fs body is_global) = same_own (Capture n fs body is_global) _ _ _ _ (folds body) same_none
+    node_folds (FilterSection fs body) = same_own (FilterSection fs body) _ _ _ _ (folds body) same_none
+    node_folds (Block n body span) = same_own (Block n body span) _ _ _ _ (folds body) same_none
+    node_folds (ComponentCall n all body span) = same_own (ComponentCall n all body span) _ _ _ _ (folds body) same_none
+    node_folds (Content t span) = same_own (Content t span) _ _ _ _ same_none same_none
+    node_folds (Print e) = same_own (Print e) _ _ _ _ same_none same_none
+    node_folds (Set n e is_global) = same_own (Set n e is_global) _ _ _ _ same_none same_none
+    node_folds (Include n span) = same_own (Include n span) _ _ _ _ same_none same_none
+    node_folds Break = same_own Break _ _ _ _ same_none same_none
+    node_folds Continue = same_own Continue _ _ _ _ same_none same_none
 
-    pub gathered_map : (ns : Nodes) → map f (gathered true own ns) ≡ gathered true seen ns
-    gathered_map NoNodes = refl
-    gathered_map (MoreNodes n rest) = joined _ _ (node_gathered_map n) (gathered_map rest)
+    pub folds : (ns : Nodes) → Related (fold own none put ns) (fold own' none' put' ns)
+    folds NoNodes = same_none
+    folds (MoreNodes n rest) = same_put n _ _ _ _ (node_folds n) (folds rest)
+
+-- what each thing that is gathered is seen as may be gathered as well
+pub gathered_map : {A B : Type 0} (f : A → B) (own : Node → List A) (seen : Node → List B) → ((n : Node) → map f (own n) ≡ seen n) → (ns : Nodes) → map f (gathered true own ns) ≡ gathered true seen ns
+gathered_map {A = A} {B = B} f own seen same =
+    folds (λ xs ys. map f xs ≡ ys) (gather_node true own) [] gather_first (gather_node true seen) [] gather_first refl
+    (λ n x y x' y' a b. map-append f (own n) _ ∙ ap₂ (λ x y. x ++ y) (same n) (within (is_entered true n) x y x' y' a b))
+    (λ n x y x' y' a b. map-append f x y ∙ ap₂ (λ x y. x ++ y) a b)
+  where
+    within : (q : Bool) (x y : List A) (x' y' : List B) → map f x ≡ x' → map f y ≡ y' → map f (if q then x ++ y else []) ≡ (if q then x' ++ y' else [])
+    within true x y x' y' a b = map-append f x y ∙ ap₂ (λ x y. x ++ y) a b
+    within false x y x' y' a b = refl
 
 both_empty : {A : Type 0} (xs ys : List A) → xs ++ ys ≡ [] → (xs ≡ []) × (ys ≡ [])
 both_empty [] ys h = (refl, h)
 both_empty (x ∷ xs) ys h = (let q : x ∷ (xs ++ ys) ≡ [] = h in cc)
 
-no_blocks_in_both : (xs ys : List (site.Name × Nodes)) → xs ≡ [] → ys ≡ [] → xs ++ ys ≡ []
-no_blocks_in_both xs ys a b = ap₂ (λ x y. x ++ y) a b
-
 -- nodes that have no block outside of all others have none
-mutual
-  node_has_no_blocks : (n : Node) → node_top_blocks n ≡ [] → node_blocks n ≡ []
-  node_has_no_blocks (If c body other) h =
-      let s = both_empty (top_blocks body) (top_blocks other) h in
-      no_blocks_in_both _ _ (have_no_blocks body s.0) (have_no_blocks other s.1)
-  node_has_no_blocks (For key n e body other) h =
-      let s = both_empty (top_blocks body) (top_blocks other) h in
-      no_blocks_in_both _ _ (have_no_blocks body s.0) (have_no_blocks other s.1)
-  node_has_no_blocks (Capture n fs body is_global) h = have_no_blocks body h
-  node_has_no_blocks (FilterSection fs body) h = have_no_blocks body h
-  node_has_no_blocks (Block n body span) h = (let q : n ∷ [] ≡ [] = h in cc)
-  node_has_no_blocks (ComponentCall n all body span) h = have_no_blocks body h
-  node_has_no_blocks _ h = refl
-
-  pub have_no_blocks : (ns : Nodes) → top_blocks ns ≡ [] → blocks ns ≡ []
-  have_no_blocks NoNodes h = refl
-  have_no_blocks (MoreNodes n rest) h =
-      let s = both_empty (node_top_blocks n) (top_blocks rest) h in
-      no_blocks_in_both _ _ (node_has_no_blocks n s.0) (have_no_blocks rest s.1)
-
-or_false : (p : Names) → p ∪ nobody ≡ p
-or_false p = fun_ext (λ n. same (p n))
+pub have_no_blocks : (ns : Nodes) → top_blocks ns ≡ [] → blocks ns ≡ []
+have_no_blocks =
+    folds (λ (xs : List site.Name) (ys : List (site.Name × Nodes)). xs ≡ [] → ys ≡ []) (gather_node false own_block_name) [] gather_first (gather_node true own_block) [] gather_first (λ h. refl)
+    in_node
+    (λ n x y x' y' a b h. let s = both_empty x y h in ap₂ (λ x y. x ++ y) (a s.0) (b s.1))
   where
-    same : (b : Bool) → (b || false) ≡ b
-    same true = refl
-    same false = refl
+    in_node : (n : Node) (x y : List site.Name) (x' y' : List (site.Name × Nodes)) → (x ≡ [] → x' ≡ []) → (y ≡ [] → y' ≡ []) → gather_node false own_block_name n x y ≡ [] → gather_node true own_block n x' y' ≡ []
+    in_node (Block n body span) x y x' y' a b h = (let q : n ∷ [] ≡ [] = h in cc)
+    in_node _ x y x' y' a b h = let s = both_empty x y h in ap₂ (λ x y. x ++ y) (a s.0) (b s.1)
 
 -- what a node binds behind a loop is what it sets itself and what its bodies bind
-pub binds_of_bodies : (n : Node) → own_binds true n ∪ (binds true (body_of n) ∪ binds true (other_of n)) ≡ node_binds true n
-binds_of_bodies (Capture n fs body is_global) = ap (λ x. set_binds true is_global n ∪ x) (or_false (binds true body))
-binds_of_bodies (Set n e is_global) = or_false (set_binds true is_global n)
-binds_of_bodies (FilterSection fs body) = or_false (binds true body)
-binds_of_bodies (Block n body span) = or_false (binds true body)
-binds_of_bodies (ComponentCall n all body span) = or_false (binds true body)
-binds_of_bodies _ = refl
+pub binds_of_bodies : (in_loop : Bool) (n : Node) → own_binds in_loop n ∪ (binds (in_loop || is_loop n) (body_of n) ∪ binds in_loop (other_of n)) ≡ node_binds in_loop n
+binds_of_bodies in_loop n = ap (λ (f : Bool → Names). f in_loop) (fold_of_bodies bind_node (λ in_loop. nobody) bind_first n)
+
+-- what is free in a node is what its tag looks up, and what its bodies do that nothing binds
+pub free_of_bodies : (n : Node) → tag_free n ∪ ((free (body_of n) ∖ body_names n) ∪ (free (other_of n) ∖ binds (is_loop n) (body_of n))) ≡ node_free n
+free_of_bodies n = fold_of_bodies free_node nobody free_first n
 
 -- The measure of a walk over a node, and of one over nodes: it decreases from nodes to each of them, and from a node to its bodies.
 abbrev pub node_measure : declared.Node → ℕ

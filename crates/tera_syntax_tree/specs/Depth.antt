@@ -1,6 +1,6 @@
 -- How deep trees are.
 use Rattle.std.specs.Prelude.{ℕ, suc, max, ◌≤◌, IsTrue, List, [], ◌∷◌, Option, Some, None}
-use Rattle.tera_syntax_tree.specs.Tree.{Expr, Nothing, Boolean, Integer, Text, Name, Attribute, Index, Slice, Not, Negate, Binary, And, Or, Ternary, Array, Map, Comprehension, Super, Filter, Test, Call, Component, Optional, Absent, Present, Items, NoItems, MoreItems, Entries, NoEntries, MoreEntries, Arguments, NoArguments, MoreArguments, Literal, NothingLiteral, BooleanLiteral, IntegerLiteral, TextLiteral, ArrayLiteral, MapLiteral, Literals, NoLiterals, MoreLiterals, LiteralEntries, NoLiteralEntries, MoreLiteralEntries, Parameter, Filters, NoFilters, MoreFilters, Node, Content, Print, If, Set, Capture, FilterSection, For, Block, Include, ComponentCall, Break, Continue, Nodes, NoNodes, MoreNodes, Signature, Definitions, Tree}
+use Rattle.tera_syntax_tree.specs.Tree.{Expr, Nothing, Boolean, Integer, Text, Name, Attribute, Index, Slice, Not, Negate, Binary, And, Or, Ternary, Array, Map, Comprehension, Super, Filter, Test, Call, Component, Optional, Absent, Present, Items, NoItems, MoreItems, Entries, NoEntries, MoreEntries, Arguments, NoArguments, MoreArguments, Literal, NothingLiteral, BooleanLiteral, IntegerLiteral, TextLiteral, ArrayLiteral, MapLiteral, Literals, NoLiterals, MoreLiterals, LiteralEntries, NoLiteralEntries, MoreLiteralEntries, Parameter, Filters, NoFilters, MoreFilters, Node, Nodes, Signature, Definitions, Tree, expression_in, filters_in, attributes_in, fold_node, fold}
 use Rattle.tera_syntax_tree.specs.Leaving.{tree_in_place}
 use Rattle.tera_syntax_tree.specs.Blocks.{has_each_block_once}
 use Rattle.tera_syntax_tree.specs.Definitions.{has_blocks_outside, has_each_component_once}
@@ -79,25 +79,24 @@ abbrev pub filters_depth : Filters → ℕ
 filters_depth NoFilters = 0
 filters_depth (MoreFilters n all span rest) = max (suc (arguments_depth all)) (filters_depth rest)
 
-abbrev mutual
-  pub node_depth : Node → ℕ
-  node_depth (Content t span) = 1
-  node_depth (Print e) = suc (depth e)
-  node_depth (If c body other) = suc (max (depth c) (max (nodes_depth body) (nodes_depth other)))
-  node_depth (Set n e is_global) = suc (depth e)
-  node_depth (Capture n fs body is_global) = suc (max (filters_depth fs) (nodes_depth body))
-  node_depth (FilterSection fs body) = suc (max (filters_depth fs) (nodes_depth body))
-  node_depth (For key n e body other) =
-      suc (max (depth e) (max (nodes_depth body) (nodes_depth other)))
-  node_depth (Block n body span) = suc (nodes_depth body)
-  node_depth (Include n span) = 1
-  node_depth (ComponentCall n all body span) = suc (max (entries_depth all) (nodes_depth body))
-  node_depth Break = 1
-  node_depth Continue = 1
+-- how deep the parts of a node's own tag are
+abbrev pub tag_depth : Node → ℕ
+tag_depth n =
+    max (optional_depth (expression_in n))
+    (max (filters_depth (filters_in n)) (entries_depth (attributes_in n)))
 
-  pub nodes_depth : Nodes → ℕ
-  nodes_depth NoNodes = 0
-  nodes_depth (MoreNodes n rest) = max (node_depth n) (nodes_depth rest)
+-- a node is one deeper than its tag and its bodies, and nodes are as deep as the deepest of them
+abbrev pub deepen : Node → ℕ → ℕ → ℕ
+deepen n body other = suc (max (tag_depth n) (max body other))
+
+abbrev pub deepest : Node → ℕ → ℕ → ℕ
+deepest n first rest = max first rest
+
+abbrev pub node_depth : Node → ℕ
+node_depth = fold_node deepen 0 deepest
+
+abbrev pub nodes_depth : Nodes → ℕ
+nodes_depth = fold deepen 0 deepest
 
 -- a component is no level itself
 abbrev pub definition_depth : Signature × Nodes → ℕ

@@ -1,7 +1,7 @@
 -- The names that a tree looks up and does not bind.
 use Rattle.std.specs.Prelude.{Bool, true, false, not, ◌&&◌, ◌||◌, bytes_eq, Option, Some, None, if◌then◌else◌}
 use Rattle.tera_errors.specs.Site as site
-use Rattle.tera_syntax_tree.specs.Tree.{Expr, Nothing, Boolean, Integer, Text, Name, Attribute, Index, Slice, Not, Negate, Binary, And, Or, Ternary, Array, Map, Comprehension, Super, Filter, Test, Call, Component, Optional, Absent, Present, Items, NoItems, MoreItems, Entries, NoEntries, MoreEntries, Arguments, NoArguments, MoreArguments, Filters, NoFilters, MoreFilters, Node, Content, Print, If, Set, Capture, FilterSection, For, Block, Include, ComponentCall, Break, Continue, Nodes, NoNodes, MoreNodes}
+use Rattle.tera_syntax_tree.specs.Tree.{Expr, Nothing, Boolean, Integer, Text, Name, Attribute, Index, Slice, Not, Negate, Binary, And, Or, Ternary, Array, Map, Comprehension, Super, Filter, Test, Call, Component, Optional, Absent, Present, Items, NoItems, MoreItems, Entries, NoEntries, MoreEntries, Arguments, NoArguments, MoreArguments, Filters, NoFilters, MoreFilters, Node, Set, Capture, For, Nodes, body_of, expression_in, filters_in, attributes_in, fold_node, fold}
 
 -- a set of names
 abbrev pub Names : Type 0
@@ -76,6 +76,21 @@ abbrev pub filters_free : Filters → Names
 filters_free NoFilters = nobody
 filters_free (MoreFilters n all span rest) = arguments_free all ∪ filters_free rest
 
+-- what is looked up in a node's own tag
+abbrev pub tag_free : Node → Names
+tag_free n =
+    optional_free (expression_in n)
+    ∪ (filters_free (filters_in n) ∪ entries_free (attributes_in n))
+
+-- what the body of a node is given: the names of a loop's items
+abbrev pub body_names : Node → Names
+body_names (For key n e body other) = loop_names key n
+body_names _ = nobody
+
+abbrev pub is_loop : Node → Bool
+is_loop (For key n e body other) = true
+is_loop _ = false
+
 -- What setting a name binds behind it, or, where it stands in a loop's body, behind that loop:
 -- there what `set` binds has ended, and what `set_global` binds has not.
 abbrev pub set_binds : Bool → Bool → site.Name → Names
@@ -87,44 +102,33 @@ own_binds in_loop (Set n e is_global) = set_binds in_loop is_global n
 own_binds in_loop (Capture n fs body is_global) = set_binds in_loop is_global n
 own_binds in_loop _ = nobody
 
--- the names that are bound behind nodes, or behind the loop in whose body they stand
-abbrev mutual
-  pub node_binds : Bool → Node → Names
-  node_binds in_loop (Content t span) = nobody
-  node_binds in_loop (Print e) = nobody
-  node_binds in_loop (If c body other) = binds in_loop body ∪ binds in_loop other
-  node_binds in_loop (Set n e is_global) = set_binds in_loop is_global n
-  node_binds in_loop (Capture n fs body is_global) =
-      set_binds in_loop is_global n ∪ binds in_loop body
-  node_binds in_loop (FilterSection fs body) = binds in_loop body
-  node_binds in_loop (For key n e body other) = binds true body ∪ binds in_loop other
-  node_binds in_loop (Block n body span) = binds in_loop body
-  node_binds in_loop (Include n span) = nobody
-  node_binds in_loop (ComponentCall n all body span) = binds in_loop body
-  node_binds in_loop Break = nobody
-  node_binds in_loop Continue = nobody
+-- what a node binds is what it sets itself, and what its bodies bind
+abbrev pub bind_node : Node → (Bool → Names) → (Bool → Names) → Bool → Names
+bind_node n body other in_loop =
+    own_binds in_loop n ∪ (body (in_loop || is_loop n) ∪ other in_loop)
 
-  pub binds : Bool → Nodes → Names
-  binds in_loop NoNodes = nobody
-  binds in_loop (MoreNodes n rest) = node_binds in_loop n ∪ binds in_loop rest
+abbrev pub bind_first : Node → (Bool → Names) → (Bool → Names) → Bool → Names
+bind_first n first rest in_loop = first in_loop ∪ rest in_loop
+
+-- the names that are bound behind nodes, or behind the loop in whose body they stand
+abbrev pub node_binds : Bool → Node → Names
+node_binds in_loop n = fold_node bind_node (λ in_loop. nobody) bind_first n in_loop
+
+abbrev pub binds : Bool → Nodes → Names
+binds in_loop nodes = fold bind_node (λ in_loop. nobody) bind_first nodes in_loop
+
+-- what a node's tag looks up, what its body does that it is not given, and what its other body does
+-- that the first one does not bind
+abbrev pub free_node : Node → Names → Names → Names
+free_node n body other =
+    tag_free n ∪ ((body ∖ body_names n) ∪ (other ∖ binds (is_loop n) (body_of n)))
+
+abbrev pub free_first : Node → Names → Names → Names
+free_first n first rest = first ∪ (rest ∖ node_binds false n)
 
 -- the names that nodes look up and that nothing binds which stands before in the text, or around
-abbrev mutual
-  pub node_free : Node → Names
-  node_free (Content t span) = nobody
-  node_free (Print e) = expr_free e
-  node_free (If c body other) = expr_free c ∪ (free body ∪ (free other ∖ binds false body))
-  node_free (Set n e is_global) = expr_free e
-  node_free (Capture n fs body is_global) = filters_free fs ∪ free body
-  node_free (FilterSection fs body) = filters_free fs ∪ free body
-  node_free (For key n e body other) =
-      expr_free e ∪ ((free body ∖ loop_names key n) ∪ (free other ∖ binds true body))
-  node_free (Block n body span) = free body
-  node_free (Include n span) = nobody
-  node_free (ComponentCall n all body span) = entries_free all ∪ free body
-  node_free Break = nobody
-  node_free Continue = nobody
+abbrev pub node_free : Node → Names
+node_free = fold_node free_node nobody free_first
 
-  pub free : Nodes → Names
-  free NoNodes = nobody
-  free (MoreNodes n rest) = node_free n ∪ (free rest ∖ node_binds false n)
+abbrev pub free : Nodes → Names
+free = fold free_node nobody free_first

@@ -1,7 +1,7 @@
 -- Trees of which every span is a stretch of the text.
 use Rattle.std.specs.Prelude.{ℕ, ◌≤◌, [], ◌∷◌}
 use Rattle.tera_errors.specs.declared.span.Span.{Span}
-use Rattle.tera_syntax_tree.specs.Tree.{Expr, Nothing, Boolean, Integer, Text, Name, Attribute, Index, Slice, Not, Negate, Binary, And, Or, Ternary, Array, Map, Comprehension, Super, Filter, Test, Call, Component, Optional, Absent, Present, Items, NoItems, MoreItems, Entries, NoEntries, MoreEntries, Arguments, NoArguments, MoreArguments, Filters, NoFilters, MoreFilters, Node, Content, Print, If, Set, Capture, FilterSection, For, Block, Include, ComponentCall, Break, Continue, Nodes, NoNodes, MoreNodes, Definitions, Tree}
+use Rattle.tera_syntax_tree.specs.Tree.{Expr, Nothing, Boolean, Integer, Text, Name, Attribute, Index, Slice, Not, Negate, Binary, And, Or, Ternary, Array, Map, Comprehension, Super, Filter, Test, Call, Component, Optional, Absent, Present, Items, NoItems, MoreItems, Entries, NoEntries, MoreEntries, Arguments, NoArguments, MoreArguments, Filters, NoFilters, MoreFilters, Node, Content, Block, Include, ComponentCall, Nodes, Definitions, Tree, expression_in, filters_in, attributes_in, fold_node, fold}
 
 -- a stretch of a text of this size
 abbrev pub Within : ℕ → Span → Type 0
@@ -60,27 +60,33 @@ FiltersInside size NoFilters = Unit {0}
 FiltersInside size (MoreFilters n all span rest) =
     ArgumentsInside size all × Within size span × FiltersInside size rest
 
-abbrev mutual
-  pub NodeInside : ℕ → Node → Type 0
-  NodeInside size (Content t span) = Within size span
-  NodeInside size (Print e) = ExprInside size e
-  NodeInside size (If c body other) =
-      ExprInside size c × NodesInside size body × NodesInside size other
-  NodeInside size (Set n e is_global) = ExprInside size e
-  NodeInside size (Capture n fs body is_global) = FiltersInside size fs × NodesInside size body
-  NodeInside size (FilterSection fs body) = FiltersInside size fs × NodesInside size body
-  NodeInside size (For key n e body other) =
-      ExprInside size e × NodesInside size body × NodesInside size other
-  NodeInside size (Block n body span) = NodesInside size body × Within size span
-  NodeInside size (Include n span) = Within size span
-  NodeInside size (ComponentCall n all body span) =
-      EntriesInside size all × NodesInside size body × Within size span
-  NodeInside size Break = Unit {0}
-  NodeInside size Continue = Unit {0}
+-- the span of a node itself, where it has one
+abbrev pub OwnSpanInside : ℕ → Node → Type 0
+OwnSpanInside size (Content t span) = Within size span
+OwnSpanInside size (Block n body span) = Within size span
+OwnSpanInside size (Include n span) = Within size span
+OwnSpanInside size (ComponentCall n all body span) = Within size span
+OwnSpanInside size _ = Unit {0}
 
-  pub NodesInside : ℕ → Nodes → Type 0
-  NodesInside size NoNodes = Unit {0}
-  NodesInside size (MoreNodes n rest) = NodeInside size n × NodesInside size rest
+-- the spans in a node's own tag
+abbrev pub TagInside : ℕ → Node → Type 0
+TagInside size n =
+    OptionalInside size (expression_in n) × FiltersInside size (filters_in n)
+    × EntriesInside size (attributes_in n)
+    × OwnSpanInside size n
+
+-- those of a node are those in its tag and in its bodies
+abbrev pub AllInside : ℕ → Node → Type 0 → Type 0 → Type 0
+AllInside size n body other = TagInside size n × body × other
+
+abbrev pub BothInside : Node → Type 0 → Type 0 → Type 0
+BothInside n first rest = first × rest
+
+abbrev pub NodeInside : ℕ → Node → Type 0
+NodeInside size = fold_node (AllInside size) (Unit {0}) BothInside
+
+abbrev pub NodesInside : ℕ → Nodes → Type 0
+NodesInside size = fold (AllInside size) (Unit {0}) BothInside
 
 abbrev pub DefinitionsInside : ℕ → Definitions → Type 0
 DefinitionsInside size [] = Unit {0}

@@ -1,28 +1,32 @@
 -- Where `break` and `continue` stand.
 use Rattle.std.specs.Prelude.{Bool, true, false, ◌&&◌, [], ◌∷◌}
-use Rattle.tera_syntax_tree.specs.Tree.{Node, Content, Print, If, Set, Capture, FilterSection, For, Block, Include, ComponentCall, Break, Continue, Nodes, NoNodes, MoreNodes, Definitions, Tree}
+use Rattle.tera_syntax_tree.specs.Tree.{Node, For, Block, Break, Continue, Nodes, Definitions, Tree, fold_node, fold}
 
--- They stand in the body of a loop alone; the flag says whether the nodes do. What stands behind a
--- loop's `else` is no part of its body, and the body of a block is no part of a loop around it,
--- while that which a component is handed is.
-abbrev mutual
-  pub node_in_place : Bool → Node → Bool
-  node_in_place q (Content t span) = true
-  node_in_place q (Print e) = true
-  node_in_place q (If c body other) = in_place q body && in_place q other
-  node_in_place q (Set n e is_global) = true
-  node_in_place q (Capture n fs body is_global) = in_place q body
-  node_in_place q (FilterSection fs body) = in_place q body
-  node_in_place q (For key n e body other) = in_place true body && in_place q other
-  node_in_place q (Block n body span) = in_place false body
-  node_in_place q (Include n span) = true
-  node_in_place q (ComponentCall n all body span) = in_place q body
-  node_in_place q Break = q
-  node_in_place q Continue = q
+-- They stand in the body of a loop alone; the flag says whether the node does.
+abbrev pub may_stand : Bool → Node → Bool
+may_stand q Break = q
+may_stand q Continue = q
+may_stand q _ = true
 
-  pub in_place : Bool → Nodes → Bool
-  in_place q NoNodes = true
-  in_place q (MoreNodes n rest) = node_in_place q n && in_place q rest
+-- Whether the body of a node is in a loop's. What stands behind a loop's `else` is no part of its
+-- body, and the body of a block is no part of a loop around it, while that which a component is
+-- handed is.
+abbrev pub body_may_leave : Bool → Node → Bool
+body_may_leave q (For key n e body other) = true
+body_may_leave q (Block n body span) = false
+body_may_leave q _ = q
+
+abbrev pub place_node : Node → (Bool → Bool) → (Bool → Bool) → Bool → Bool
+place_node n body other q = may_stand q n && (body (body_may_leave q n) && other q)
+
+abbrev pub place_first : Node → (Bool → Bool) → (Bool → Bool) → Bool → Bool
+place_first n first rest q = first q && rest q
+
+abbrev pub node_in_place : Bool → Node → Bool
+node_in_place q n = fold_node place_node (λ q. true) place_first n q
+
+abbrev pub in_place : Bool → Nodes → Bool
+in_place q nodes = fold place_node (λ q. true) place_first nodes q
 
 abbrev pub definitions_in_place : Definitions → Bool
 definitions_in_place [] = true

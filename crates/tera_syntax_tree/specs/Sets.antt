@@ -5,9 +5,9 @@ use Rattle.std.specs.BTreeSet.{BTreeSet, contains_text}
 use Rattle.tera_syntax_tree.specs.declared.expression.Applied.{Applied, out-Applied}
 use Rattle.tera_syntax_tree.specs.declared.expression.Bounds.{Bounds}
 use Rattle.tera_syntax_tree.specs.declared.expression.Collected.{Collected}
-use Rattle.tera_syntax_tree.specs.Tree.{Node, Nodes}
+use Rattle.tera_syntax_tree.specs.Tree.{Node, Nodes, body_of}
 use Rattle.tera_syntax_tree.specs.View.{expr_of, optional_of, arguments_of}
-use Rattle.tera_syntax_tree.specs.Free.{Names, loop_names, expr_free, optional_free, arguments_free, node_free, free, node_binds, binds, ◌∪◌, ◌∖◌}
+use Rattle.tera_syntax_tree.specs.Free.{Names, loop_names, expr_free, optional_free, arguments_free, body_names, is_loop, node_free, free, node_binds, binds, ◌∪◌, ◌∖◌}
 
 abbrev pub names_in : BTreeSet (String Global) → Names
 names_in = contains_text
@@ -37,6 +37,12 @@ bounds_free b =
 -- those of a node and of what stands behind it, where these are those of what stands behind it
 abbrev pub before : Node → Names → Names
 before node behind = node_free node ∪ (behind ∖ node_binds false node)
+
+-- the same of the body of a node
+abbrev pub before_body : Node → Names → Names
+before_body node behind =
+    (free (body_of node) ∖ body_names node)
+    ∪ (behind ∖ binds (is_loop node) (body_of node))
 
 abbrev pub before_all : Nodes → Names → Names
 before_all nodes behind = free nodes ∪ (behind ∖ binds false nodes)

@@ -138,6 +138,47 @@ other_of (If c body other) = other
 other_of (For key n e body other) = other
 other_of _ = NoNodes
 
+-- the expression in a node's own tag
+abbrev pub expression_in : Node → Optional
+expression_in (Print e) = Present e
+expression_in (If c body other) = Present c
+expression_in (Set n e is_global) = Present e
+expression_in (For key n e body other) = Present e
+expression_in _ = Absent
+
+-- the filters in a node's own tag
+abbrev pub filters_in : Node → Filters
+filters_in (Capture n fs body is_global) = fs
+filters_in (FilterSection fs body) = fs
+filters_in _ = NoFilters
+
+-- the attributes in a node's own tag
+abbrev pub attributes_in : Node → Entries
+attributes_in (ComponentCall n all body span) = all
+attributes_in _ = NoEntries
+
+-- What is made of nodes: `own` makes it of a node and of what is made of its two bodies, and `put`
+-- of a node, of what is made of it, and of what is made of the nodes behind it.
+abbrev mutual
+  pub fold_node {ℓ} : {A : Type ℓ} → (Node → A → A → A) → A → (Node → A → A → A) → Node → A
+  fold_node own none put (If c body other) =
+      own (If c body other) (fold own none put body) (fold own none put other)
+  fold_node own none put (Capture n fs body is_global) =
+      own (Capture n fs body is_global) (fold own none put body) none
+  fold_node own none put (FilterSection fs body) =
+      own (FilterSection fs body) (fold own none put body) none
+  fold_node own none put (For key n e body other) =
+      own (For key n e body other) (fold own none put body) (fold own none put other)
+  fold_node own none put (Block n body span) =
+      own (Block n body span) (fold own none put body) none
+  fold_node own none put (ComponentCall n all body span) =
+      own (ComponentCall n all body span) (fold own none put body) none
+  fold_node own none put node = own node none none
+
+  pub fold {ℓ} : {A : Type ℓ} → (Node → A → A → A) → A → (Node → A → A → A) → Nodes → A
+  fold own none put NoNodes = none
+  fold own none put (MoreNodes n rest) = put n (fold_node own none put n) (fold own none put rest)
+
 -- components, each with its body
 abbrev pub Definitions : Type 0
 Definitions = List (Signature × Nodes)

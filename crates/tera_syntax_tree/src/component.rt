@@ -1,4 +1,8 @@
 // Components as they are defined. They borrow names and texts from the template's source.
+ghost use Rattle.std.specs.Prelude.{◌≡◌};
+ghost use Rattle.tera_syntax_tree.specs.Tree as tree;
+ghost use Rattle.tera_syntax_tree.specs.View.{literals_of, literal_entries_of, written_of};
+
 use crate::expression::LiteralKey;
 use crate::quoted::Quoted;
 
@@ -61,5 +65,21 @@ impl<'s> Drop for Signature<'s> {
         drop(name);
         drop(parameters);
         drop(rest);
+    }
+}
+
+impl<'s> Literal<'s> {
+    /// `[value, ..]`
+    pub fn array(items: Vec<Literal<'s>>) -> Self
+        ensures { written_of result ≡ tree.ArrayLiteral (literals_of items.entry.items) }
+    {
+        Literal::Array(items)
+    }
+
+    /// `{key: value, ..}`
+    pub fn map(entries: Vec<LiteralEntry<'s>>) -> Self
+        ensures { written_of result ≡ tree.MapLiteral (literal_entries_of entries.entry.items) }
+    {
+        Literal::Map(entries)
     }
 }

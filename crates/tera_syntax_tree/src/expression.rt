@@ -1,5 +1,10 @@
 // Expressions. They borrow names and texts from the template's source.
+ghost use Rattle.std.specs.Prelude.{◌≡◌, IfOk};
+ghost use Rattle.tera_syntax_tree.specs.Tree as tree;
+ghost use Rattle.tera_syntax_tree.specs.View.{applied_of, arguments_of, called_of, comprehension_of, entries_of, expr_of, items_of, slice_of, tag_of};
+
 use crate::quoted::Quoted;
+use std::alloc::{AllocError, Global};
 use tera_errors::Span;
 
 /// A sign between two operands that are both evaluated.
@@ -395,5 +400,156 @@ impl<'s> Drop for Heading<'s> {
         drop(key);
         drop(name);
         drop(target);
+    }
+}
+
+impl<'s> Expression<'s> {
+    /// `target.name`, or `target?.name` where it is optional.
+    pub fn attribute(target: Box<Expression<'s>>, name: &'s str, optional: bool, span: Span) -> Self
+        ensures { expr_of result ≡ tree.Attribute (expr_of target.entry.value) name.now
+            optional span }
+    {
+        Expression::Attribute {
+            optional,
+            target,
+            name,
+            span,
+        }
+    }
+
+    /// `target[index]`, or `target?[index]` where it is optional.
+    pub fn index(parts: Box<Indexed<'s>>, optional: bool, span: Span) -> Self
+        ensures { expr_of result ≡ tree.Index (expr_of parts.entry.value.target)
+            (expr_of parts.entry.value.index)
+            optional span }
+    {
+        Expression::Index {
+            optional,
+            parts,
+            span,
+        }
+    }
+
+    /// The bounds are those that are written, each in its place.
+    pub fn slice(sliced: Box<Sliced<'s>>, optional: bool, span: Span) -> Self
+        ensures { expr_of result ≡ slice_of sliced.entry.value optional span }
+    {
+        Expression::Slice {
+            optional,
+            sliced,
+            span,
+        }
+    }
+
+    /// `not operand`, with the operand in a box.
+    pub fn not(alloc: Global, operand: Self, span: Span) -> Result<Self, AllocError>
+        ensures { IfOk result (λ e. expr_of e ≡ tree.Not (expr_of operand.entry) span) }
+    {
+        let operand = Box::new(alloc, operand)?;
+        Ok(Expression::Not { operand, span })
+    }
+
+    /// `-operand`, with the operand in a box.
+    pub fn negate(alloc: Global, operand: Self, span: Span) -> Result<Self, AllocError>
+        ensures { IfOk result (λ e. expr_of e ≡ tree.Negate (expr_of operand.entry) span) }
+    {
+        let operand = Box::new(alloc, operand)?;
+        Ok(Expression::Negate { operand, span })
+    }
+
+    /// The operator between two operands.
+    pub fn binary(operator: BinaryOperator, operands: Box<Operands<'s>>, span: Span) -> Self
+        ensures { expr_of result ≡ tree.Binary operator (expr_of operands.entry.value.left)
+            (expr_of operands.entry.value.right)
+            span }
+    {
+        Expression::Binary {
+            operator,
+            operands,
+            span,
+        }
+    }
+
+    /// `left and right`
+    pub fn and(operands: Box<Operands<'s>>, span: Span) -> Self
+        ensures { expr_of result ≡ tree.And (expr_of operands.entry.value.left)
+            (expr_of operands.entry.value.right)
+            span }
+    {
+        Expression::And { operands, span }
+    }
+
+    /// `left or right`
+    pub fn or(operands: Box<Operands<'s>>, span: Span) -> Self
+        ensures { expr_of result ≡ tree.Or (expr_of operands.entry.value.left)
+            (expr_of operands.entry.value.right)
+            span }
+    {
+        Expression::Or { operands, span }
+    }
+
+    /// `value if condition else other`
+    pub fn ternary(choice: Box<Choice<'s>>, span: Span) -> Self
+        ensures { expr_of result ≡ tree.Ternary (expr_of choice.entry.value.value)
+            (expr_of choice.entry.value.condition)
+            (expr_of choice.entry.value.other) span }
+    {
+        Expression::Ternary { choice, span }
+    }
+
+    /// `[item, ..]`
+    pub fn array(items: Vec<Item<'s>>, span: Span) -> Self
+        ensures { expr_of result ≡ tree.Array (items_of items.entry.items) span }
+    {
+        Expression::Array { items, span }
+    }
+
+    /// `{key: value, ..}`
+    pub fn map(entries: Vec<EntryExpression<'s>>, span: Span) -> Self
+        ensures { expr_of result ≡ tree.Map (entries_of entries.entry.items) span }
+    {
+        Expression::Map { entries, span }
+    }
+
+    /// `[value for heading if condition]`
+    pub fn comprehension(collected: Box<Collected<'s>>, span: Span) -> Self
+        ensures { expr_of result ≡ comprehension_of collected.entry.value span }
+    {
+        Expression::Comprehension { collected, span }
+    }
+
+    /// `super(name = value, ..)`
+    pub fn super_call(arguments: Vec<Argument<'s>>, span: Span) -> Self
+        ensures { expr_of result ≡ tree.Super (arguments_of arguments.entry.items) span }
+    {
+        Expression::Super { arguments, span }
+    }
+
+    /// `value | name(name = value, ..)`
+    pub fn filter(applied: Box<Applied<'s>>, span: Span) -> Self
+        ensures { expr_of result ≡ applied_of tree.Filter applied.entry.value span }
+    {
+        Expression::Filter { applied, span }
+    }
+
+    /// `value is name(name = value, ..)`
+    pub fn test(applied: Box<Applied<'s>>, span: Span) -> Self
+        ensures { expr_of result ≡ applied_of tree.Test applied.entry.value span }
+    {
+        Expression::Test { applied, span }
+    }
+
+    /// `name(name = value, ..)`
+    pub fn call(called: Box<FunctionCall<'s>>, span: Span) -> Self
+        ensures { expr_of result ≡ called_of called.entry.value span }
+    {
+        Expression::Call { called, span }
+    }
+
+    /// `<name attributes/>`
+    pub fn component(tag: Box<ComponentTag<'s>>, span: Span) -> Self
+        ensures { expr_of result ≡ tag_of tag.entry.value span }
+    {
+        Expression::Component { tag, span }
     }
 }

@@ -2,7 +2,6 @@
 #![tactic(auto)]
 
 pub mod component;
-pub mod constructors;
 pub mod delimiters;
 pub mod expression;
 pub mod node;

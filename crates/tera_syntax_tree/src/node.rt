@@ -1,10 +1,11 @@
 // Nodes of a template. They borrow names and texts from its source.
 ghost use Rattle.std.specs.Prelude.{◌≡◌};
-ghost use Rattle.tera_syntax_tree.specs.Tree.{body_of, other_of};
-ghost use Rattle.tera_syntax_tree.specs.View.{node_of, nodes_of};
+ghost use Rattle.tera_syntax_tree.specs.Tree as tree;
+ghost use Rattle.tera_syntax_tree.specs.Tree.{attributes_in, body_of, filters_in, other_of};
+ghost use Rattle.tera_syntax_tree.specs.View.{capture_of, component_call_of, entries_of, expr_of, filters_of, for_of, node_of, nodes_of};
 
 use crate::component::Signature;
-use crate::expression::{Argument, ComponentTag, Expression, Heading};
+use crate::expression::{Argument, ComponentTag, EntryExpression, Expression, Heading};
 use crate::quoted::Quoted;
 use tera_errors::Span;
 
@@ -121,8 +122,84 @@ impl<'s> Drop for Node<'s> {
 }
 
 impl<'s> Node<'s> {
+    /// `{% if condition %}body{% else %}other{% endif %}`
+    #[tactic(auto, using(crate::proofs::Views::view_if))]
+    pub fn choice(condition: Box<Expression<'s>>, body: Vec<Node<'s>>, other: Vec<Node<'s>>) -> Self
+        ensures { node_of result ≡ tree.If (expr_of condition.entry.value) (nodes_of body.entry.items)
+            (nodes_of other.entry.items) }
+    {
+        Node::If {
+            condition,
+            body,
+            other,
+        }
+    }
+
+    /// `{% set name = value %}`, or `{% set_global name = value %}` where it is global.
+    pub fn set(name: &'s str, value: Box<Expression<'s>>, is_global: bool) -> Self
+        ensures { node_of result ≡ tree.Set name.now (expr_of value.entry.value) is_global }
+    {
+        Node::Set {
+            name,
+            value,
+            is_global,
+        }
+    }
+
+    /// `{% set name | filter %}body{% endset %}`, or the same with `set_global` where it is global.
+    #[tactic(auto, using(crate::proofs::Views::view_capture))]
+    pub fn capture(captured: Box<Captured<'s>>, body: Vec<Node<'s>>, is_global: bool) -> Self
+        ensures { node_of result
+            ≡ capture_of captured.entry.value (nodes_of body.entry.items) is_global }
+    {
+        Node::Capture {
+            is_global,
+            captured,
+            body,
+        }
+    }
+
+    /// `{% filter filters %}body{% endfilter %}`
+    #[tactic(auto, using(crate::proofs::Views::view_section))]
+    pub fn filter_section(filters: Vec<SectionFilter<'s>>, body: Vec<Node<'s>>) -> Self
+        ensures { node_of result ≡ tree.FilterSection (filters_of filters.entry.items)
+            (nodes_of body.entry.items) }
+    {
+        Node::FilterSection { filters, body }
+    }
+
+    /// `{% block name %}body{% endblock %}`
+    #[tactic(auto, using(crate::proofs::Views::view_block))]
+    pub fn block(name: &'s str, body: Vec<Node<'s>>, span: Span) -> Self
+        ensures { node_of result ≡ tree.Block name.now (nodes_of body.entry.items) span }
+    {
+        Node::Block(Block { name, body, span })
+    }
+
+    /// `{% <name attributes> %}body{% </name> %}`
+    #[tactic(auto, using(crate::proofs::Views::view_component_call))]
+    pub fn component_call(tag: Box<ComponentTag<'s>>, body: Vec<Node<'s>>, span: Span) -> Self
+        ensures { node_of result
+            ≡ component_call_of tag.entry.value (nodes_of body.entry.items) span }
+    {
+        Node::ComponentCall { tag, body, span }
+    }
+
+    /// `{% for heading %}body{% else %}other{% endfor %}`
+    #[tactic(auto, using(crate::proofs::Views::view_for))]
+    pub fn for_loop(heading: Box<Heading<'s>>, body: Vec<Node<'s>>, other: Vec<Node<'s>>) -> Self
+        ensures { node_of result ≡ for_of heading.entry.value body.entry.items other.entry.items }
+    {
+        Node::For {
+            heading,
+            body,
+            other,
+        }
+    }
+
     /// What stands between the tags of a statement. It is empty where the node has no such body. So a walk names only the nodes of
     /// which it says more than of their bodies.
+    #[tactic(auto, using(crate::proofs::Views::body_of_if, crate::proofs::Views::body_of_capture, crate::proofs::Views::body_of_section, crate::proofs::Views::body_of_for, crate::proofs::Views::body_of_block, crate::proofs::Views::body_of_call,))]
     pub fn body(&self) -> &[Node<'s>]
         ensures { nodes_of result.now ≡ body_of (node_of self.now) }
     {
@@ -138,12 +215,36 @@ impl<'s> Node<'s> {
     }
 
     /// What stands behind the `else` of a statement, or its `elif`. It is empty where the node has no such body.
+    #[tactic(auto, using(crate::proofs::Views::other_of_if, crate::proofs::Views::other_of_for))]
     pub fn other(&self) -> &[Node<'s>]
         ensures { nodes_of result.now ≡ other_of (node_of self.now) }
     {
         match self {
             Node::If { other, .. } => other.as_slice(),
             Node::For { other, .. } => other.as_slice(),
+            _ => &[],
+        }
+    }
+
+    /// The filters in the first tag of a statement.
+    #[tactic(auto, using(crate::proofs::Views::filters_in_capture, crate::proofs::Views::filters_in_section))]
+    pub fn filters(&self) -> &[SectionFilter<'s>]
+        ensures { filters_of result.now ≡ filters_in (node_of self.now) }
+    {
+        match self {
+            Node::Capture { captured, .. } => captured.filters.as_slice(),
+            Node::FilterSection { filters, .. } => filters.as_slice(),
+            _ => &[],
+        }
+    }
+
+    /// The attributes in the first tag of a statement.
+    #[tactic(auto, using(crate::proofs::Views::attributes_in_call))]
+    pub fn attributes(&self) -> &[EntryExpression<'s>]
+        ensures { entries_of result.now ≡ attributes_in (node_of self.now) }
+    {
+        match self {
+            Node::ComponentCall { tag, .. } => tag.attributes.as_slice(),
             _ => &[],
         }
     }

@@ -5,7 +5,7 @@ use Rattle.tera_syntax_tree.specs.Free.{binds, ◌∖◌}
 use Rattle.tera_syntax_tree.specs.Sets.{names_in}
 use Rattle.tera_syntax_tree.proofs.Unions.{without-pass, without_three}
 use Rattle.tera_syntax_tree.proofs.Forms.{drop-here}
-use Rattle.tera_syntax_tree.proofs.Walks.{binds_of_bodies, falls_to_node, node_measure}
+use Rattle.tera_syntax_tree.proofs.Walks.{binds_of_bodies, falls_to_body, falls_to_node, node_measure, nodes_measure}
 use Rattle.tera_syntax_tree.proofs.variables.nodes.+globals.Goals as goal
 
 pub remove_globals-loop-node-preserved : goal.remove_globals-loop-node-preserved
@@ -22,6 +22,10 @@ remove_globals-remove_globals_of-requires t c =
 
 pub remove_globals_of-returns : goal.remove_globals_of-returns
 remove_globals_of-returns t c =
-    let b = c.remove_globals.ensures ∙ ap (λ x. names_in c.remove_own_global.new.found ∖ binds true x) c.body.ensures in
+    let b = c.remove_globals.ensures ∙ ap (λ x. names_in c.remove_own.new.found ∖ binds true x) c.body.ensures in
     let o = c.remove_globals-2.ensures ∙ ap (λ x. names_in c.remove_globals.new.found ∖ binds true x) c.other.ensures in
-    without_three _ _ _ _ _ _ _ _ c.remove_own_global.ensures b o (binds_of_bodies (node_of c.args.node.now))
+    without_three _ _ _ _ _ _ _ _ c.remove_own.ensures b o (binds_of_bodies true (node_of c.args.node.now))
+
+pub remove_globals_of-remove_globals-requires : goal.remove_globals_of-remove_globals-requires
+remove_globals_of-remove_globals-requires t c =
+    (subst (λ m. nodes_measure c.body.result.now < m) c.decreases (falls_to_body c.args.node.now c.body.result.now c.body.ensures), tt)

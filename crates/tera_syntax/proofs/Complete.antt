@@ -5,7 +5,7 @@ use Rattle.std.specs.Prelude.{option_and_then, codes}
 use Rattle.tera_syntax_tokens.specs.declared.token.Kind.TheVariants as k
 use Rattle.tera_syntax_tokens.specs.Token.{Token}
 use Rattle.tera_syntax_tokens.specs.Cut.{Piece, Words, Comment, Variable, Block}
-use Rattle.tera_syntax_tree.specs.Tree.{Content, Print, Break, Node, Nodes, NoNodes}
+use Rattle.tera_syntax_tree.specs.Tree.{Expr, Content, Print, Break, Node, Nodes, NoNodes}
 use Rattle.tera_syntax_tree.specs.Depth.{depth, node_depth, nodes_depth}
 use Rattle.tera_syntax.specs.declared.heads.Surroundings.{Surroundings}
 use Rattle.tera_syntax.specs.Heads.{Head, IfHead, ForHead, BlockHead, make, head_depth, splits, chains, inside, ends}
@@ -32,16 +32,13 @@ pub node-some : (n : Node) → 0 < node_depth n
 node-some Break = omega arith
 node-some _ = omega arith
 
-third-fits : (c b o m : ℕ) → suc (max c (max b o)) ≤ suc m → o ≤ m
-third-fits c b o m le = omega arith
-
 head-fits : (h : Head) (b o : Nodes) (m : ℕ) → node_depth (make h b o) ≤ suc m → (head_depth h ≤ m) × (nodes_depth b ≤ m)
 head-fits (BlockHead n s) b o m le = (omega arith, omega (arith, le))
 head-fits _ b o m le = (omega (arith, le), omega (arith, le))
 
 other-fits : (h : Head) (b o : Nodes) (m : ℕ) → splits h ≡ true → node_depth (make h b o) ≤ suc m → nodes_depth o ≤ m
-other-fits (IfHead c) b o m q le = third-fits (depth c) (nodes_depth b) (nodes_depth o) m le
-other-fits (ForHead k n e) b o m q le = third-fits (depth e) (nodes_depth b) (nodes_depth o) m le
+other-fits (IfHead c) b o m q le = omega (arith, le)
+other-fits (ForHead k n e) b o m q le = omega (arith, le)
 other-fits _ b o m q le = absurd (cc)
 
 chains-split : (h : Head) → chains h ≡ true → splits h ≡ true
@@ -56,8 +53,8 @@ rest-fits {h = h} (chained {further = f} {body = x} {other = y} s g d o) b m le 
 first-fits : (n r limit h : ℕ) → 0 < n → max n r ≤ limit - h → (h < limit) × (n ≤ suc (limit - suc h)) × (r ≤ limit - h)
 first-fits n r limit h p le = (omega arith, omega arith, omega arith)
 
-print-fits : (v limit h : ℕ) → h < limit → suc v ≤ suc (limit - suc h) → v ≤ limit - suc h
-print-fits v limit h lt le = omega arith
+print-fits : (v : Expr) (limit h : ℕ) → h < limit → node_depth (Print v) ≤ suc (limit - suc h) → depth v ≤ limit - suc h
+print-fits v limit h lt le = omega (arith, lt, le)
 
 -- What is read
 
@@ -135,9 +132,9 @@ module _ (limit : ℕ) where
       reads {q = q} (comment {i = i} d) fs found le = moves (at q fs found) (at q fs found) Comment i refl ∙ reads d fs found le
       reads {q = q} {j = j} (print {value = value} {tokens = tokens} {rest = rest} {i = i} v d) fs found le =
           let n = Print value in
-          let s = first-fits (suc (depth value)) (nodes_depth rest) limit (length fs) (omega arith) le in
+          let s = first-fits (node_depth n) (nodes_depth rest) limit (length fs) (node-some n) le in
           moves (at q fs found) (at q fs (join found (one n))) (Variable tokens) i
-          (ap (printed limit (at q fs found)) (whole_complete v (room limit (at q fs found)) (print-fits (depth value) limit (length fs) s.0 s.1)) ∙ put-read q fs found n s.0)
+          (ap (printed limit (at q fs found)) (whole_complete v (room limit (at q fs found)) (print-fits value limit (length fs) s.0 s.1)) ∙ put-read q fs found n s.0)
           ∙ reads d fs (join found (one n)) s.2
           ∙ ap (λ n. read (at q fs n) j) (join-join found (one n) rest)
       reads {q = q} {j = j} (single {node = n} {tokens = tokens} {rest = rest} {i = i} a d) fs found le =

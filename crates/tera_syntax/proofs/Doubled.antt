@@ -124,7 +124,7 @@ first_text-within size NoNodes inside = omega arith
 first_text-within size (MoreNodes n rest) inside = by_node n inside.0 (first_text-within size rest inside.1)
   where
     by_node : (n : Node) → NodeInside size n → first_text rest ≤ size → unwrap_or (text_start n) (first_text rest) ≤ size
-    by_node (Content t span) inside le = let lies : (span.start ≤ span.end) × (span.end ≤ size) = inside in let a = lies.0 in let b = lies.1 in omega (arith, a, b)
+    by_node (Content t span) inside le = let lies : (span.start ≤ span.end) × (span.end ≤ size) = inside.0.3 in let a = lies.0 in let b = lies.1 in omega (arith, a, b)
     by_node _ inside le = le
 
 -- a component stands where its body lies

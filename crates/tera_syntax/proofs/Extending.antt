@@ -15,7 +15,7 @@ use Rattle.tera_syntax_tokens.specs.Input.{begin, next, same}
 use Rattle.tera_syntax_tokens.specs.Cut.{Piece, Words, Comment, Variable, Block, Broken}
 use Rattle.tera_syntax_expressions.proofs.Steps.{guard}
 use Rattle.tera_syntax.specs.declared.heads.Surroundings.{Surroundings}
-use Rattle.tera_syntax.specs.Heads.{Head, IfHead, ForHead, SetHead, SectionHead, BlockHead, CallHead, outside, make, is_component, is_extends}
+use Rattle.tera_syntax.specs.Heads.{Head, IfHead, outside, make, is_component, is_extends}
 use Rattle.tera_syntax.specs.Grammar.{Begins, Extends, Simple, set, includes, breaks, continues, join, is_space, are_spaces, DerivesNodes, empty, content, blank, comment, print, single, bodied, DerivesFile, root, child}
 use Rattle.tera_syntax.specs.Reader.{Progress, has_room, one, quoted_name, room, signed, taken, statement}
 use Rattle.tera_syntax.specs.Parts.{Parts, component_begun, plain_step, parts_step, parts_read_on}
@@ -66,11 +66,7 @@ simple-fills (continues l w) rest h = absurd (cc)
 
 made-fills : (head : Head) (body other rest : Nodes) → are_spaces (MoreNodes (make head body other) rest) ≡ true → ⊥
 made-fills (IfHead c) body other rest h = absurd (cc)
-made-fills (ForHead key n e) body other rest h = absurd (cc)
-made-fills (SetHead n fs is_global) body other rest h = absurd (cc)
-made-fills (SectionHead fs) body other rest h = absurd (cc)
-made-fills (BlockHead n position) body other rest h = absurd (cc)
-made-fills (CallHead n all position) body other rest h = absurd (cc)
+made-fills _ body other rest h = absurd (cc)
 
 module _ (limit : ℕ) where
   -- Behind the front the parts are read as ever

@@ -4,10 +4,10 @@ use Rattle.std.proofs.lemmas.List.{append_assoc, drop_more}
 use Rattle.tera_syntax_tokens.specs.declared.refusal.Refusal.{Refusal}
 use Rattle.tera_syntax_tree.specs.declared.node.Node as declared
 use Rattle.tera_syntax_tree.specs.declared.node.DefinedComponent.{DefinedComponent}
-use Rattle.tera_syntax_tree.specs.Tree.{Node, If, Capture, FilterSection, For, Block, ComponentCall, body_of, other_of}
+use Rattle.tera_syntax_tree.specs.Tree.{Node, Block, body_of, other_of}
 use Rattle.tera_syntax_tree.specs.Gathered.{gathered, node_gathered, is_entered}
-use Rattle.tera_syntax_tree.proofs.Walks.{gathered_of_bodies}
-use Rattle.tera_syntax_tree.specs.Inside.{NodeInside, NodesInside}
+use Rattle.tera_syntax_tree.proofs.Walks.{fold_of_bodies, gathered_of_bodies}
+use Rattle.tera_syntax_tree.specs.Inside.{AllInside, BothInside, NodeInside, NodesInside}
 use Rattle.tera_syntax_tree.specs.View.{node_of, nodes_of, defined_of, definitions_of}
 use Rattle.tera_syntax.specs.declared.blocks.PlacedName.{PlacedName}
 use Rattle.tera_syntax.specs.Names.{NameAt, component_at, components_at}
@@ -36,13 +36,9 @@ gathered_everywhere own n =
 
 -- where a node lies inside, so do its bodies
 pub bodies_inside : (size : ℕ) (n : Node) → NodeInside size n → NodesInside size (body_of n) × NodesInside size (other_of n)
-bodies_inside size (If c body other) inside = (inside.1, inside.2)
-bodies_inside size (Capture n fs body is_global) inside = (inside.1, tt)
-bodies_inside size (FilterSection fs body) inside = (inside.1, tt)
-bodies_inside size (For key n e body other) inside = (inside.1, inside.2)
-bodies_inside size (Block n body span) inside = (inside.0, tt)
-bodies_inside size (ComponentCall n all body span) inside = (inside.1, tt)
-bodies_inside size _ inside = (tt, tt)
+bodies_inside size n inside =
+    let lies = subst (λ A. A) (sym (fold_of_bodies (AllInside size) (Unit {0}) BothInside n)) inside in
+    (lies.1, lies.2)
 
 -- the next component
 pub next_component : (ds : List DefinedComponent) (i : ℕ) (d : DefinedComponent) → i < length ds → d ≡ get_or ds i d → drop i ds ≡ d ∷ drop (i + 1) ds

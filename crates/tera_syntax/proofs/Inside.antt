@@ -5,7 +5,7 @@ use Rattle.tera_errors.specs.Site.{Name, Text}
 use Rattle.tera_syntax_tree.specs.Delimiters.{delimiters_of, accepted}
 use Rattle.tera_syntax_tree.specs.declared.delimiters.Delimiters.{Delimiters}
 use Rattle.tera_syntax_tree.specs.Tree.{Expr, Filters, Node, Nodes, NoNodes, MoreNodes, Definitions, Tree}
-use Rattle.tera_syntax_tree.specs.Inside.{Within, ExprInside, EntriesInside, FiltersInside, NodeInside, NodesInside, DefinitionsInside, Inside}
+use Rattle.tera_syntax_tree.specs.Inside.{Within, ExprInside, FiltersInside, TagInside, NodeInside, NodesInside, DefinitionsInside, Inside}
 use Rattle.tera_syntax_tokens.specs.declared.token.Kind.{Kind}
 use Rattle.tera_syntax_tokens.specs.declared.token.Kind.TheVariants as k
 use Rattle.tera_syntax_tokens.specs.Token.{Token}
@@ -17,7 +17,7 @@ use Rattle.tera_syntax_tokens.proofs.Stretches.{PiecesInside, pieces_inside}
 use Rattle.tera_syntax_expressions.proofs.Calls.{calls_lie}
 use Rattle.tera_syntax_expressions.proofs.Inside.{expr_lies, attributes_lie, filters_lie}
 use Rattle.tera_syntax.specs.declared.heads.Surroundings.{Surroundings}
-use Rattle.tera_syntax.specs.Heads.{Head, IfHead, ForHead, SetHead, SectionHead, BlockHead, CallHead, make, first}
+use Rattle.tera_syntax.specs.Heads.{Head, IfHead, ForHead, make, first}
 use Rattle.tera_syntax.specs.Grammar.{DerivesWhole, whole, DerivesPipe, pipe, Simple, set, includes, Opens, choice, loop, capture, filtered, section, block, call, GoesOn, elif, DerivesNodes, empty, content, blank, comment, print, single, bodied, DerivesRest, ended, split, chained, join, DerivesParts, last, component, DerivesFile, root, child}
 use Rattle.tera_syntax.specs.Spells.{Spells}
 
@@ -55,18 +55,13 @@ stretch_inside size s i j e n o w =
     (omega (arith, l, m), in_order-le size j.last j.ahead w.orderly)
 
 simple_inside : (size : ℕ) {q : Surroundings} {node : Node} {tokens : List Token} → Simple q node tokens → InOrder size 0 tokens → NodeInside size node
-simple_inside size {q = q} {tokens = tokens} (set b n w) o = whole_inside size w (behind_two size (next (begin q.in_loop tokens)) (behind size (begin q.in_loop tokens) o))
-simple_inside size {tokens = tokens} (includes w) o = token_inside size k.Text (next (begin false tokens)) w.1 (λ q. cc) (behind size (begin false tokens) o)
-simple_inside size _ o = tt
+simple_inside size {q = q} {tokens = tokens} (set b n w) o = ((whole_inside size w (behind_two size (next (begin q.in_loop tokens)) (behind size (begin q.in_loop tokens) o)), tt, tt, tt), tt, tt)
+simple_inside size {tokens = tokens} (includes w) o = ((tt, tt, tt, token_inside size k.Text (next (begin false tokens)) w.1 (λ q. cc) (behind size (begin false tokens) o)), tt, tt)
+simple_inside size _ o = ((tt, tt, tt, tt), tt, tt)
 
--- the expressions and filters of a head lie inside, and its name
+-- what stands in the tag of a head lies inside
 abbrev HeadInside : ℕ → Head → Type 0
-HeadInside size (IfHead c) = ExprInside size c
-HeadInside size (ForHead key n e) = ExprInside size e
-HeadInside size (SetHead n fs is_global) = FiltersInside size fs
-HeadInside size (SectionHead fs) = FiltersInside size fs
-HeadInside size (BlockHead n position) = Within size position
-HeadInside size (CallHead n all position) = EntriesInside size all × Within size position
+HeadInside size head = TagInside size (make head NoNodes NoNodes)
 
 -- a word is not the end of a tag
 word-goes-on : (i : Input) → is_word (kind i) ≡ true → kind i ≡ k.End → ⊥
@@ -74,39 +69,37 @@ unfolding is_word
 word-goes-on i w e = (let f : is_word k.End ≡ true = ap is_word (sym e) ∙ w in cc)
 
 opens_inside : (size : ℕ) {q : Surroundings} {head : Head} {tokens : List Token} → Opens q head tokens → InOrder size 0 tokens → HeadInside size head
-opens_inside size {q = q} {tokens = tokens} (choice e w) o = whole_inside size w (behind size (begin q.in_loop tokens) o)
-opens_inside size {q = q} {tokens = tokens} (loop e c w) o = let n = calls_lie size c (behind size (begin q.in_loop tokens) o) in whole_inside size w n.orderly
-opens_inside size (capture b n) o = tt
-opens_inside size {q = q} {tokens = tokens} (filtered b n w) o = pipe_inside size w (behind_two size (next (begin q.in_loop tokens)) (behind size (begin q.in_loop tokens) o))
-opens_inside size {q = q} {tokens = tokens} (section b w) o = pipe_inside size w (behind size (begin q.in_loop tokens) o)
+opens_inside size {q = q} {tokens = tokens} (choice e w) o = (whole_inside size w (behind size (begin q.in_loop tokens) o), tt, tt, tt)
+opens_inside size {q = q} {tokens = tokens} (loop e c w) o = let n = calls_lie size c (behind size (begin q.in_loop tokens) o) in (whole_inside size w n.orderly, tt, tt, tt)
+opens_inside size (capture b n) o = (tt, tt, tt, tt)
+opens_inside size {q = q} {tokens = tokens} (filtered b n w) o = (tt, pipe_inside size w (behind_two size (next (begin q.in_loop tokens)) (behind size (begin q.in_loop tokens) o)), tt, tt)
+opens_inside size {q = q} {tokens = tokens} (section b w) o = (tt, pipe_inside size w (behind size (begin q.in_loop tokens) o), tt, tt)
 opens_inside size {q = q} {tokens = tokens} (call {a = a} e w d g f) o =
     let i = begin q.in_loop tokens in
     let n = onward_next size i o in
     let m = onward_next size (next i) n.orderly in
     let p = attributes_lie size d m.orderly in
-    (p.inside, stretch_inside size k.Less i (next a) (first_here k.Less q.in_loop tokens e) (λ q. cc) o (onward_then m (onward_then p.onward (onward_next size a p.onward.orderly))))
+    (tt, tt, p.inside, stretch_inside size k.Less i (next a) (first_here k.Less q.in_loop tokens e) (λ q. cc) o (onward_then m (onward_then p.onward (onward_next size a p.onward.orderly))))
 opens_inside size {q = q} {tokens = tokens} (block m b w n) o =
     let i = next (begin q.in_loop tokens) in
-    token_inside size (kind i) i refl (word-goes-on i w) (behind size (begin q.in_loop tokens) o)
+    (tt, tt, tt, token_inside size (kind i) i refl (word-goes-on i w) (behind size (begin q.in_loop tokens) o))
 
 goes_on_inside : (size : ℕ) {q : Surroundings} {head : Head} {tokens : List Token} → GoesOn q head tokens → InOrder size 0 tokens → HeadInside size head
-goes_on_inside size {q = q} {tokens = tokens} (elif e w) o = whole_inside size w (behind size (begin q.in_loop tokens) o)
+goes_on_inside size {q = q} {tokens = tokens} (elif e w) o = (whole_inside size w (behind size (begin q.in_loop tokens) o), tt, tt, tt)
 
+-- what a head makes lies inside, where its bodies do
 made_inside : (size : ℕ) (head : Head) (body other : Nodes) → HeadInside size head → NodesInside size body → NodesInside size other → NodeInside size (make head body other)
 made_inside size (IfHead c) body other h b o = (h, b, o)
 made_inside size (ForHead key n e) body other h b o = (h, b, o)
-made_inside size (SetHead n fs is_global) body other h b o = (h, b)
-made_inside size (SectionHead fs) body other h b o = (h, b)
-made_inside size (BlockHead n position) body other h b o = (b, h)
-made_inside size (CallHead n all position) body other h b o = (h.0, b, h.1)
+made_inside size _ body other h b o = (h, b, tt)
 
 mutual
   nodes_lie : (size : ℕ) {q : Surroundings} {nodes : Nodes} {i j : List Piece} → DerivesNodes q nodes i j → PiecesInside size i → Lie size nodes j
   nodes_lie size empty h = record { inside = tt; rest = h }
-  nodes_lie size (content n d) h = let p = nodes_lie size d h.1 in record { inside = (h.0, p.inside); rest = p.rest }
+  nodes_lie size (content n d) h = let p = nodes_lie size d h.1 in record { inside = (((tt, tt, tt, h.0), tt, tt), p.inside); rest = p.rest }
   nodes_lie size (blank d) h = nodes_lie size d h.1
   nodes_lie size (comment d) h = nodes_lie size d h.1
-  nodes_lie size (print w d) h = let p = nodes_lie size d h.1 in record { inside = (whole_inside size w h.0, p.inside); rest = p.rest }
+  nodes_lie size (print w d) h = let p = nodes_lie size d h.1 in record { inside = (((whole_inside size w h.0, tt, tt, tt), tt, tt), p.inside); rest = p.rest }
   nodes_lie size (single a d) h = let p = nodes_lie size d h.1 in record { inside = (simple_inside size a h.0, p.inside); rest = p.rest }
   nodes_lie size (bodied {head = head} {body = body} {other = other} a d o r) h =
       let b = nodes_lie size d h.1 in

@@ -15,14 +15,15 @@ and-true true b e f = f
 and-true false b e f = absurd (cc)
 
 simple_placed : {q : Surroundings} {node : Node} {tokens : List Token} → Simple q node tokens → IsTrue (node_in_place q.may_leave node)
-simple_placed (breaks l w) = l
-simple_placed (continues l w) = l
+simple_placed (breaks l w) = and-true _ true l refl
+simple_placed (continues l w) = and-true _ true l refl
 simple_placed _ = refl
 
 made_placed : (q : Surroundings) (head : Head) (body other : Nodes) → IsTrue (in_place (inside head q).may_leave body) → IsTrue (in_place q.may_leave other) → IsTrue (node_in_place q.may_leave (make head body other))
 made_placed q (IfHead c) body other b o = and-true (in_place q.may_leave body) (in_place q.may_leave other) b o
 made_placed q (ForHead key n e) body other b o = and-true (in_place true body) (in_place q.may_leave other) b o
-made_placed q _ body other b o = b
+made_placed q (BlockHead n span) body other b o = and-true (in_place false body) true b refl
+made_placed q _ body other b o = and-true (in_place q.may_leave body) true b refl
 
 mutual
   pub derived_placed : {q : Surroundings} {x : Nodes} {i j : List Piece} → DerivesNodes q x i j → IsTrue (in_place q.may_leave x)
@@ -81,7 +82,7 @@ made_bare : (q : Surroundings) (head : Head) (body other : Nodes) → MayOpen q 
 made_bare q (IfHead c) body other m n b o = ap₂ (λ x y. x ++ y) b o
 made_bare q (ForHead key name e) body other m n b o = ap₂ (λ x y. x ++ y) b o
 made_bare q (BlockHead name span) body other m n b o = let e : true ≡ false = sym m ∙ n in absurd (cc)
-made_bare q _ body other m n b o = b
+made_bare q _ body other m n b o = ap (λ x. x ++ []) b
 
 mutual
   derived_bare : {q : Surroundings} {x : Nodes} {i j : List Piece} → q.may_have_blocks ≡ false → DerivesNodes q x i j → blocks x ≡ []

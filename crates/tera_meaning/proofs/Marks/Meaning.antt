@@ -328,9 +328,9 @@ module _ {K : Claim} where
           visit-means (bind Same (expr-means x all.0) (λ a b k. rw (truthy-same k.value) (choice-means (truthy b.value) (nodes-mean body texts.0 either.0) (nodes-mean other texts.1 either.1))))
       node-means (Set name x is_global) held h = visit-means (bind Same (expr-means x h) (λ a b k. changes-means (λ v w vs. assign-stands is_global name k.value vs)))
       node-means (Capture name fs body is_global) held h =
-          visit-means (bind Same (captured-means (nodes-mean body held (parts (calls body) (filters_calls fs) h).0)) (λ x y k. go_on-means k.0 (bind Same (filters-mean fs (parts (calls body) (filters_calls fs) h).1 (put_out-stands fs k.1)) (λ a b l. changes-means (λ v w vs. assign-stands is_global name l.value vs)))))
+          visit-means (bind Same (captured-means (nodes-mean body (pieces (contents body) [] held).0 (parts (calls body) (filters_calls fs) h).0)) (λ x y k. go_on-means k.0 (bind Same (filters-mean fs (parts (calls body) (filters_calls fs) h).1 (put_out-stands fs k.1)) (λ a b l. changes-means (λ v w vs. assign-stands is_global name l.value vs)))))
       node-means (FilterSection fs body) held h =
-          visit-means (bind Same (captured-means (nodes-mean body held (parts (calls body) (filters_calls fs) h).0)) (λ x y k. go_on-means k.0 (bind Same (filters-mean fs (parts (calls body) (filters_calls fs) h).1 (put_out-stands fs k.1)) (λ a b l. written-means l))))
+          visit-means (bind Same (captured-means (nodes-mean body (pieces (contents body) [] held).0 (parts (calls body) (filters_calls fs) h).0)) (λ x y k. go_on-means k.0 (bind Same (filters-mean fs (parts (calls body) (filters_calls fs) h).1 (put_out-stands fs k.1)) (λ a b l. written-means l))))
       node-means (For key name x body other) held h =
           let all = parts (expr_calls x) (calls body ++ calls other) h in
           let either = parts (calls body) (calls other) all.1 in
@@ -341,7 +341,7 @@ module _ {K : Claim} where
       node-means (Include name span) held h = visit-means (bind Same (asks-means answered_for (includes name span)) (λ t u ts. writes-means ts))
       node-means (ComponentCall name xs body span) held h =
           let all = parts (calls body) (entries_calls xs ++ AComponent name ∷ []) h in
-          visit-means (bind Same (captured-means (nodes-mean body held all.0)) (λ x y k. go_on-means k.0 (bind Same (entries-mean xs (parts (entries_calls xs) (AComponent name ∷ []) all.1).0) (λ vs ws ks.
+          visit-means (bind Same (captured-means (nodes-mean body (pieces (contents body) [] held).0 all.0)) (λ x y k. go_on-means k.0 (bind Same (entries-mean xs (parts (entries_calls xs) (AComponent name ∷ []) all.1).0) (λ vs ws ks.
           bind Same (component-means name span ks (value (texts true k.1))) (λ a b l. written-means l)))))
       node-means Break held h = visit-means (gives-means _ _ refl)
       node-means Continue held h = visit-means (gives-means _ _ refl)

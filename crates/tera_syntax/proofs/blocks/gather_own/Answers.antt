@@ -19,4 +19,4 @@ pub returns-in_ok-push-in-Block-clause-points : goal.returns-in_ok-push-in-Block
 returns-in_ok-push-in-Block-clause-points c size inside before =
     let within = subst (NodeInside size) (ap node_of c.in-Block.is ∙ view_block c.in-Block.block) inside in
     let P : PlacedName → Type 0 = λ n. Within size n.span in
-    All-same P _ _ c.in_ok-push-in-Block.ensures.items (All-push P c.args.names.now.items _ before within.1)
+    All-same P _ _ c.in_ok-push-in-Block.ensures.items (All-push P c.args.names.now.items _ before within.0.3)

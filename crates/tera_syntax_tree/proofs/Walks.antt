@@ -1,5 +1,5 @@
--- Walks over nodes, which name only the nodes of which they say more than of their bodies.
-use Rattle.std.proofs.Common.{◌≡◌, ℕ, zero, suc, ◌+◌, ◌*◌, ◌<◌, Bool, true, false, ◌||◌, List, [], ◌∷◌, ◌++◌, length, get_or, if◌then◌else◌, Result, Ok, Err, OnOk, append_assoc, refl, map, ap, ap₂, ◌∙◌, arith}
+-- Folds of nodes, and walks over them.
+use Rattle.std.proofs.Common.{◌≡◌, ℕ, zero, suc, ◌+◌, ◌*◌, ◌<◌, Bool, true, false, ◌||◌, List, [], ◌∷◌, ◌++◌, length, get_or, if◌then◌else◌, Result, Ok, Err, OnOk, append_assoc, refl, map, ap, ap₂, subst₂, ◌∙◌, arith}
 use Rattle.tera_errors.specs.Site as site
 use Rattle.tera_syntax_tree.specs.declared.node.Node as declared
 use Rattle.std.proofs.lemmas.List.{map-append}
@@ -7,7 +7,7 @@ use Rattle.tera_syntax_tree.specs.Free.{Names, nobody, tag_free, body_names, is_
 use Rattle.tera_syntax_tree.specs.Gathered.{gather_node, gather_first, gathered, node_gathered, is_entered}
 use Rattle.tera_syntax_tree.specs.Blocks.{own_block, own_block_name, blocks, top_blocks}
 use Rattle.tera_syntax_tree.specs.Depth.{deepen, deepest, node_depth, nodes_depth}
-use Rattle.tera_syntax_tree.specs.Tree.{Node, Content, Print, If, Set, Capture, FilterSection, For, Block, Include, ComponentCall, Break, Continue, Nodes, NoNodes, MoreNodes, body_of, other_of, fold_node, fold}
+use Rattle.tera_syntax_tree.specs.Tree.{Node, Block, Break, Nodes, NoNodes, MoreNodes, body_of, other_of, fold_node, fold}
 use Rattle.tera_syntax_tree.specs.View.{node_of, nodes_of}
 
 -- a node is made of what stands in its tag and of its bodies
@@ -42,24 +42,24 @@ found_in_turn old middle last new own body other whole (Err e) is first second t
 module _ {A B : Type 0} (Related : A → B → Type 0) (own : Node → A → A → A) (none : A) (put : Node → A → A → A) (own' : Node → B → B → B) (none' : B) (put' : Node → B → B → B)
     (same_none : Related none none') (same_own : (n : Node) (x y : A) (x' y' : B) → Related x x' → Related y y' → Related (own n x y) (own' n x' y'))
     (same_put : (n : Node) (x y : A) (x' y' : B) → Related x x' → Related y y' → Related (put n x y) (put' n x' y')) where
-  mutual
-    node_folds : (n : Node) → Related (fold_node own none put n) (fold_node own' none' put' n)
-    node_folds (If c body other) = same_own (If c body other) _ _ _ _ (folds body) (folds other)
-    node_folds (For key n e body other) = same_own (For key n e body other) _ _ _ _ (folds body) (folds other)
-    node_folds (Capture n fs body is_global) = same_own (Capture n fs body is_global) _ _ _ _ (folds body) same_none
-    node_folds (FilterSection fs body) = same_own (FilterSection fs body) _ _ _ _ (folds body) same_none
-    node_folds (Block n body span) = same_own (Block n body span) _ _ _ _ (folds body) same_none
-    node_folds (ComponentCall n all body span) = same_own (ComponentCall n all body span) _ _ _ _ (folds body) same_none
-    node_folds (Content t span) = same_own (Content t span) _ _ _ _ same_none same_none
-    node_folds (Print e) = same_own (Print e) _ _ _ _ same_none same_none
-    node_folds (Set n e is_global) = same_own (Set n e is_global) _ _ _ _ same_none same_none
-    node_folds (Include n span) = same_own (Include n span) _ _ _ _ same_none same_none
-    node_folds Break = same_own Break _ _ _ _ same_none same_none
-    node_folds Continue = same_own Continue _ _ _ _ same_none same_none
+  -- of nodes as deep as this
+  abbrev Related_to : ℕ → Type 0
+  Related_to k = (ns : Nodes) → nodes_depth ns < k → Related (fold own none put ns) (fold own' none' put' ns)
 
-    pub folds : (ns : Nodes) → Related (fold own none put ns) (fold own' none' put' ns)
-    folds NoNodes = same_none
-    folds (MoreNodes n rest) = same_put n _ _ _ _ (node_folds n) (folds rest)
+  deeper : (k : ℕ) → Related_to k → Related_to (suc k)
+  deeper k before NoNodes le = same_none
+  deeper k before (MoreNodes n rest) le =
+      let b = body_is_below n in
+      let o = other_is_below n in
+      let whole = same_own n _ _ _ _ (before (body_of n) (omega (arith, b, le))) (before (other_of n) (omega (arith, o, le))) in
+      same_put n _ _ _ _ (subst₂ Related (fold_of_bodies own none put n) (fold_of_bodies own' none' put' n) whole) (deeper k before rest (omega (arith, le)))
+
+  to_depth : (k : ℕ) → Related_to k
+  to_depth zero ns le = absurd (omega (arith, le))
+  to_depth (suc k) ns le = deeper k (to_depth k) ns le
+
+  pub folds : (ns : Nodes) → Related (fold own none put ns) (fold own' none' put' ns)
+  folds ns = to_depth (suc (nodes_depth ns)) ns (omega arith)
 
 -- what each thing that is gathered is seen as may be gathered as well
 pub gathered_map : {A B : Type 0} (f : A → B) (own : Node → List A) (seen : Node → List B) → ((n : Node) → map f (own n) ≡ seen n) → (ns : Nodes) → map f (gathered true own ns) ≡ gathered true seen ns

@@ -1,6 +1,6 @@
 -- The definitions that contracts of other crates name, passed on from one file.
 pub use Rattle.tera_syntax_tree.specs.Delimiters.{accepted, delimiters_of}
-pub use Rattle.tera_syntax_tree.specs.Tree.{Absent, And, Array, Binary, body_of, Boolean, FilterSection, first_span, Index, Map}
+pub use Rattle.tera_syntax_tree.specs.Tree.{Absent, And, Array, Binary, body_of, Boolean, first_span, Index, Map}
 pub use Rattle.tera_syntax_tree.specs.Tree.{MoreFilters, Negate, NoArguments, NoEntries, NoFilters, Not, Or, other_of, Present}
 pub use Rattle.tera_syntax_tree.specs.Tree.{Set, Super, Ternary}
 pub use Rattle.tera_syntax_tree.specs.View.{applied_of, arguments_of, called_of, capture_of, component_call_of}

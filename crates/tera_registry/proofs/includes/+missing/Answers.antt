@@ -4,7 +4,7 @@ use Rattle.tera_errors.specs.Site.{Name}
 use Rattle.tera_syntax_tree.specs.Includes.{includes}
 use Rattle.tera_syntax_tree.specs.Tree.{body_of, other_of}
 use Rattle.tera_syntax_tree.specs.View.{node_of}
-use Rattle.tera_syntax_tree.proofs.Walks.{falls_to_node, falls_to_other, node_measure, nodes_measure}
+use Rattle.tera_syntax_tree.proofs.Walks.{falls_to_body, falls_to_node, falls_to_other, node_measure, nodes_measure}
 use Rattle.tera_meaning.specs.Registry.{Registry}
 use Rattle.tera_meaning.specs.Resolve.{resolve}
 use Rattle.tera_registry.specs.Kept.{seen}
@@ -17,6 +17,10 @@ is_missing r name = is_none (resolve r name)
 pub nodes_have_missing_include-node_has_missing_include-requires : goal.nodes_have_missing_include-node_has_missing_include-requires
 nodes_have_missing_include-node_has_missing_include-requires t c =
     (subst (λ m. node_measure c.node-item.result < m) c.decreases (falls_to_node c.args.nodes.now c.loop-node.node-index c.node-item.result c.loop-node-test.true c.node-item.is), c.requires)
+
+pub node_has_missing_include-nodes_have_missing_include-requires : goal.node_has_missing_include-nodes_have_missing_include-requires
+node_has_missing_include-nodes_have_missing_include-requires t c =
+    (subst (λ m. nodes_measure c.body.result.now < m) c.decreases (falls_to_body c.args.node.now c.body.result.now c.body.ensures), c.requires)
 
 pub node_has_missing_include-nodes_have_missing_include-requires-else-nodes_have_missing_include : goal.node_has_missing_include-nodes_have_missing_include-requires-else-nodes_have_missing_include
 node_has_missing_include-nodes_have_missing_include-requires-else-nodes_have_missing_include t c =

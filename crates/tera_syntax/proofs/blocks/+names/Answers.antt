@@ -1,7 +1,7 @@
 use Rattle.std.proofs.Common.{◌++◌, ap₂, sym, ◌∙◌, subst, ◌<◌}
 use Rattle.tera_syntax_tree.specs.Inside.{NodesInside}
 use Rattle.tera_syntax_tree.specs.View.{node_of, nodes_of}
-use Rattle.tera_syntax_tree.proofs.Walks.{falls_to_node, node_measure}
+use Rattle.tera_syntax_tree.proofs.Walks.{falls_to_body, falls_to_node, node_measure, nodes_measure}
 use Rattle.tera_syntax.specs.Names.{blocks_at, own_block_at}
 use Rattle.tera_syntax.specs.View.{Gathers}
 use Rattle.tera_syntax.proofs.Gathered.{bodies_inside, gathered_behind, gathered_everywhere}
@@ -10,6 +10,10 @@ use Rattle.tera_syntax.proofs.blocks.+names.Goals as goal
 pub gather-gather_node-requires : goal.gather-gather_node-requires
 gather-gather_node-requires t c =
     (subst (λ m. node_measure c.node-item.result < m) c.decreases (falls_to_node c.args.nodes.now c.loop-node.node-index c.node-item.result c.loop-node-test.true c.node-item.is), tt)
+
+pub gather_node-gather-requires : goal.gather_node-gather-requires
+gather_node-gather-requires t c =
+    (subst (λ m. nodes_measure c.body.result.now < m) c.decreases (falls_to_body c.args.node.now c.body.result.now c.body.ensures), tt)
 
 pub gather_node-returns-clause-gathered : goal.gather_node-returns-clause-gathered
 gather_node-returns-clause-gathered t c =

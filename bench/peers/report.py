@@ -93,7 +93,7 @@ def sums(topics):
         return [topic, str(len(rows)), *(f"{it:.2f}" for it in (min(ratios), median(ratios))), f"{short} of {len(wanted)}", *(f"{it:.1f}" for it in (min(slower), median(slower)))]
 
     return table(
-        ["Topic", "Rows", "Least ratio", "Middle one", "Short of what is wanted", "Jinja2's time by ours, least", "Middle one"],
+        ["Topic", "Rows", "Ratio, least", "median", "Short of what is wanted", "Jinja2's time by ours, least", "median"],
         [line(topic, rows) for topic, rows in topics.items()],
     )
 

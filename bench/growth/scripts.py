@@ -9,7 +9,7 @@ class Row(NamedTuple):
     size: int  # so large that the part that grows too fast can be told from the rest
     script: Callable[[int], str]  # of a size
     fault: str = ""  # the kind of the fault that ends the replies, where one does
-    may: str = ""  # why it may be over, if it may: a mark of docs/GROWTH.md
+    may: str = ""  # why it may be over, if it may: a mark of README.md
 
 
 def rising(size):

@@ -1,5 +1,6 @@
-"""What was measured, as tables and lists of docs/BENCHMARKS.md."""
+"""What was measured, as tables and lists of docs/BENCHMARKS.md and of README.md beside this."""
 import re
+from statistics import median
 from typing import NamedTuple, Optional
 
 from workloads import Row
@@ -79,6 +80,22 @@ def rendering(topics):
 
 def reading(rows):
     return table(["Templates", *HEADS], [figures(it) for it in rows])
+
+
+def sums(topics):
+    """A line for each topic: of its rows the ratios, how many fall short of what is wanted, and Jinja2's times by ours."""
+
+    def line(topic, rows):
+        ratios = [it.ratio() for it in rows if it.ratio()]
+        slower = [it.by_time("jinja2") for it in rows if it.by_time("jinja2")]
+        wanted = [it for it in rows if it.row.wanted or it.row.near]
+        short = sum(it.is_short() for it in wanted)
+        return [topic, str(len(rows)), *(f"{it:.2f}" for it in (min(ratios), median(ratios))), f"{short} of {len(wanted)}", *(f"{it:.1f}" for it in (min(slower), median(slower)))]
+
+    return table(
+        ["Topic", "Rows", "Ratio, least", "median", "Short of what is wanted", "Jinja2's time by ours, least", "median"],
+        [line(topic, rows) for topic, rows in topics.items()],
+    )
 
 
 def memory(rows):

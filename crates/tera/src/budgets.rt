@@ -27,8 +27,8 @@ struct ComponentCall<'a> {
 impl<O: Objects> TeraOver<O> {
     ghost use Rattle.tera.specs.Registry.{registry_of};
 
-    /// Answers what `render` answers, or nothing where that takes more than so many steps: eight times the visits of what the
-    /// template means are more then.
+    /// Renders as `render` does, or answers `None` where that takes more than `steps` steps. After `None`, eight times the visits of
+    /// the template's meaning exceed `steps`.
     pub fn render_within(
         &self,
         name: &str,
@@ -42,8 +42,8 @@ impl<O: Objects> TeraOver<O> {
         self.template_within::<Brand>(TemplateName { name }, context, steps)
     }
 
-    /// Answers what `render_str` answers, or nothing where that takes more than so many steps: eight times the visits of what the
-    /// text means are more then. Reading the text takes none.
+    /// Renders as `render_str` does, or answers `None` where that takes more than `steps` steps. After `None`, eight times the visits
+    /// of the text's meaning exceed `steps`. Reading the text takes no step.
     pub fn render_str_within(
         &self,
         input: &str,
@@ -58,8 +58,8 @@ impl<O: Objects> TeraOver<O> {
         self.text_within::<Brand>(Source { text: input }, context, autoescape, steps)
     }
 
-    /// Answers what `render_component` answers, or nothing where that takes more than so many steps: eight times the visits of what
-    /// the component means are more then.
+    /// Renders as `render_component` does, or answers `None` where that takes more than `steps` steps. After `None`, eight times the
+    /// visits of the component's meaning exceed `steps`.
     pub fn render_component_within(
         &self,
         name: &str,

@@ -41,7 +41,7 @@ impl<O: Objects> TeraOver<O> {
         self.templates.component_names()
     }
 
-    /// What is told of the component of this name, if there is one.
+    /// The name and the parameters of the component of this name, if there is one.
     pub fn get_component_definition(&self, name: &str) -> TeraResult<Option<ComponentInfo>>
         ensures { Gives (λ i. i) result (Ok (info_at (registry_of O.engine self.now) name.now)) }
     {
@@ -54,7 +54,7 @@ impl<O: Objects> TeraOver<O> {
         }
     }
 
-    /// Renders the component of this name with these arguments and, at will, a body, which is put out as it is. Implicit
+    /// Renders the component of this name with these arguments and an optional body, which is written as it is. Implicit
     /// parameters are looked up among the implicits, and then in the global context. A component that is not there is refused
     /// with `ComponentNotFound`, and arguments that do not fit it with `Message`.
     pub fn render_component(

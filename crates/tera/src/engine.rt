@@ -18,7 +18,7 @@ use tera_state::{CallerObjects, Objects};
 use tera_syntax_tree::Delimiters;
 use tera_values::{Context, Error, TeraResult};
 
-/// An engine, over any objects of its caller: what templates are read by, and what every rendering reads. Definitions see it as a
+/// An engine with objects of type `O`: its templates, delimiters, suffixes, global context and objects. Contracts see it as a
 /// registry.
 pub struct TeraOver<O> {
     pub(crate) alloc: Global,
@@ -64,7 +64,7 @@ impl TeraOver<CallerObjects> {
         TeraOver::with_objects(alloc, CallerObjects::new(alloc))
     }
 
-    /// Renders a text by an engine to which nothing else was said.
+    /// Renders a text with a new engine, which has no templates and no objects of the caller.
     pub fn one_off(
         alloc: Global,
         input: &str,
@@ -121,7 +121,7 @@ impl<O: Objects> TeraOver<O> {
         Ok(())
     }
 
-    /// A name that no template has is looked up behind each of these prefixes, in their order, from now on. Refused with a
+    /// A name that no template has is looked up after each of these prefixes, in their order, from now on. Refused with a
     /// message once a template is there; then those of before stay.
     pub fn set_fallback_prefixes(&mut self, prefixes: &[&str]) -> TeraResult<()>
         ensures { Configures result

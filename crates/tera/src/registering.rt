@@ -8,8 +8,8 @@ use std::mem::replace;
 use tera_state::ObjectsOver;
 use tera_values::TeraResult;
 
-/// `Tera` is such an engine, at boxes: its escape is a `Box<dyn EscapeFn>`, its filters are `Box<dyn Filter>`, its tests `Box<dyn Test>`
-/// and its functions `Box<dyn Function>`. The contracts hold whatever the objects mean.
+/// Calls that register objects, of any types. In `Tera` these are `Box<dyn EscapeFn>`, `Box<dyn Filter>`, `Box<dyn Test>` and
+/// `Box<dyn Function>`. The contracts hold whatever the objects mean.
 impl<E: Drop, F: Drop, T: Drop, G: Drop> TeraOver<ObjectsOver<E, F, T, G>> {
     ghost use Rattle.tera.specs.Registry.{registry_of};
     ghost use Rattle.tera.specs.Registering.{with_engine, Registers, MovesFrom};
@@ -30,22 +30,22 @@ impl<E: Drop, F: Drop, T: Drop, G: Drop> TeraOver<ObjectsOver<E, F, T, G>> {
         self.objects.reset_escape_fn();
     }
 
-    /// The name stands for this filter from now on, also in templates that are there; a filter of the caller that it stood for is
-    /// dropped. Want of memory leaves all as it was, and drops this one.
+    /// Registers the filter under this name, also for templates that are there already. A filter that was registered under it before
+    /// is dropped. Out of memory, the engine stays as it is, and `filter` is dropped.
     pub fn register_filter(&mut self, name: &str, filter: F) -> TeraResult<()>
         ensures { Registers result (λ m. with_filter name.now (m.filter filter)) self.old self.new }
     {
         self.objects.register_filter(name, filter)
     }
 
-    /// The name stands for this test from now on, as for a filter.
+    /// Registers the test under this name, as `register_filter` does with a filter.
     pub fn register_test(&mut self, name: &str, test: T) -> TeraResult<()>
         ensures { Registers result (λ m. with_test name.now (m.test test)) self.old self.new }
     {
         self.objects.register_test(name, test)
     }
 
-    /// The name stands for this function from now on, as for a filter.
+    /// Registers the function under this name, as `register_filter` does with a filter.
     pub fn register_function(&mut self, name: &str, function: G) -> TeraResult<()>
         ensures { Registers result (λ m. with_function name.now (m.function function))
             self.old self.new }
@@ -53,8 +53,8 @@ impl<E: Drop, F: Drop, T: Drop, G: Drop> TeraOver<ObjectsOver<E, F, T, G>> {
         self.objects.register_function(name, function)
     }
 
-    /// Moves the other engine's filters here, then its tests, then its functions, each in byte order of their names, but those whose
-    /// names stand for something here. After want of memory those that were moved stay. The rest of the other is dropped.
+    /// Moves the filters, then the tests, then the functions of `other` to this engine, each in byte order of names, except those
+    /// whose names this engine knows already. The rest of `other` is dropped. Out of memory, the objects that were moved stay here.
     pub fn register_from(&mut self, other: TeraOver<ObjectsOver<E, F, T, G>>) -> TeraResult<()>
         ensures { (m : Meanings E F T G) → let seen = registry_of (engine_of m) in
             MovesFrom result (seen other).engine (seen self.old) (seen self.new) }

@@ -30,8 +30,9 @@ impl<O: Objects> TeraOver<O> {
 
     /// Adds templates, all or none, each in place of one that has its name; of several with one name the last stays. Refused with
     /// a `SyntaxError` where a text spells no tree, and where the templates do not go together: a template extends one that
-    /// is not there, some extend or include one another in a circle, a template calls or includes what is not there, or a
-    /// child has a block, inside no other one, that no parent has (`Message`). Then all is as before.
+    /// is not there, some extend or include one another in a circle, a template calls or includes what is not there, a child
+    /// has a block, inside no other one, that no parent has, or a component has two equal definitions (`Message`). Then
+    /// all is as before.
     pub fn add_raw_templates(&mut self, templates: &[(&str, &str)]) -> TeraResult<()>
         ensures { ConfiguresOneOf result
             (Adds (registry_of O.engine self.old) (pairs_of templates.now))
@@ -58,9 +59,9 @@ impl<O: Objects> TeraOver<O> {
         self.templates.names()
     }
 
-    /// The names that the template to which the name resolves wants to be given, each once: those that its text, its blocks, its
-    /// parents, and all that these include look up, where nothing binds them that stands before in the same text, or around. A
-    /// name that begins with `__tera_` is none, nor is one that components alone look up.
+    /// The variables that a context should give to this template, each once: the names that its text, its blocks, its parents and
+    /// all that these include look up, and that no earlier `set` of the text and no loop around binds. Names that begin with
+    /// `__tera_`, and names that only components look up, are left out.
     pub fn get_template_variables(&self, name: &str) -> TeraResult<BTreeSet<String>>
         ensures { let r = registry_of O.engine self.now in
             GivesOneOf (λ s. map string_bytes s.keys) result

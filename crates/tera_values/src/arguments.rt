@@ -128,7 +128,7 @@ impl<'a> Arguments<'a> {
         }
     }
 
-    /// The fault of a call that needs the argument, which is absent. It tells of a name that is given and near to it.
+    /// The fault of a call that needs the argument, which is absent. It suggests a given name that is spelled nearly so.
     #[inline(never)]
     pub fn missing_error(&self, name: &str) -> Error
         ensures { result ≡ Some missing_argument }

@@ -70,7 +70,7 @@ impl Context {
         )
     }
 
-    /// The same for a boolean.
+    /// Puts a boolean at the name, as `insert` does.
     pub fn insert_bool(&mut self, name: &str, flag: bool) -> TeraResult<()>
         ensures ok { OnOk result (self.new ≡ put name.now (bool flag) self.old) }
         ensures err { OnErr result (self.new ≡ self.old) }
@@ -79,7 +79,7 @@ impl Context {
         self.insert(name, Value::from(flag))
     }
 
-    /// The same for an integer.
+    /// Puts an integer at the name, as `insert` does.
     pub fn insert_int(&mut self, name: &str, number: i64) -> TeraResult<()>
         ensures ok { OnOk result (self.new ≡ put name.now (int number) self.old) }
         ensures err { OnErr result (self.new ≡ self.old) }
@@ -88,7 +88,7 @@ impl Context {
         self.insert(name, Value::from(number))
     }
 
-    /// The same for a text, without the safe mark.
+    /// Puts a text without the safe mark at the name, as `insert` does.
     pub fn insert_text(&mut self, name: &str, content: &str) -> TeraResult<()>
         ensures ok { OnOk result (self.new ≡ put name.now (text content.now false) self.old) }
         ensures err { OnErr result (self.new ≡ self.old) }
@@ -141,7 +141,7 @@ impl Context {
         Ok(())
     }
 
-    /// The same values at the same names.
+    /// A copy of the context, which shares its values.
     pub fn try_clone(&self) -> TeraResult<Context>
         ensures { Gives (λ c. c) result (Ok self.now) }
     {
@@ -150,7 +150,7 @@ impl Context {
         Ok(copy)
     }
 
-    /// The same values at those of these names that are there.
+    /// A copy with these names alone, as far as they are there.
     pub fn try_clone_with(&self, names: &[&str]) -> TeraResult<Context>
         ensures { Gives (λ c. c) result (Ok (with_names (map (λ n. n.now) names.now) self.now)) }
     {
@@ -163,7 +163,7 @@ impl Context {
         Ok(copy)
     }
 
-    /// The same values at all other names.
+    /// A copy without these names.
     pub fn try_clone_without(&self, names: &[&str]) -> TeraResult<Context>
         ensures { Gives (λ c. c) result (Ok (without_names (map (λ n. n.now) names.now) self.now)) }
     {

@@ -2,8 +2,7 @@
 ghost use Rattle.std.specs.Prelude.{◌≡◌};
 ghost use Rattle.tera_values.specs.Naming.{counter_of};
 
-/// What a loop counts: its turns so far, with this one and without, whether this is the first or the last, and how many
-/// there are.
+/// A counter of a loop: `loop.index` (from 1), `loop.index0` (from 0), `loop.first`, `loop.last` or `loop.length`.
 #[derive(Clone, Copy)]
 pub enum Counter {
     Index,

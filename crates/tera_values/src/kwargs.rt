@@ -54,8 +54,8 @@ impl Kwargs {
         })
     }
 
-    /// What stands in the map, as it lies. Many arguments that come in no order are put there first: one that is put here moves
-    /// those above it.
+    /// The arguments of the map, moved and not copied. Gather many unordered arguments in a map first: `put` moves all arguments
+    /// after the new one.
     pub fn of_map(alloc: Global, map: BTreeMap<Name, Value>) -> TeraResult<Kwargs>
         ensures { Gives (λ k. k) result (Ok map.entries) }
     {
@@ -81,7 +81,7 @@ impl Kwargs {
         )
     }
 
-    /// The same, and both are kept as they lie: neither is copied.
+    /// Puts the value at the name, as `insert` does, but keeps both as they are, without a copy.
     pub fn put(&mut self, name: Name, value: Value) -> TeraResult<()>
         ensures ok { OnOk result (self.new ≡ put name value self.old) }
         ensures err { OnErr result (self.new ≡ self.old) }
@@ -157,7 +157,7 @@ impl Kwargs {
         self.as_arguments().must_get(name)
     }
 
-    /// The fault of a call that needs the argument, which is absent. It tells of a name that is given and near to it.
+    /// The fault of a call that needs the argument, which is absent. It suggests a given name that is spelled nearly so.
     pub fn missing_error(&self, name: &str) -> Error
         ensures { result ≡ Some missing_argument }
     {

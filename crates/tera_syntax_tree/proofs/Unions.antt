@@ -135,22 +135,6 @@ before_by false g false d o = refl
 pub before-both : (f g b d l : Names) → f ∪ ((g ∪ (l ∖ d)) ∖ b) ≡ (f ∪ (g ∖ b)) ∪ (l ∖ (b ∪ d))
 before-both f g b d l = fun_ext (λ n. before_by (f n) (g n) (b n) (d n) (l n))
 
-loop_by : (t f b s g d e o : Bool) → (t || ((not s && (f || (not b && false))) || (not e && (g || (not d && o))))) ≡ ((t || ((not s && f) || (not e && g))) || (not (e || d) && o))
-loop_by true f b s g d e o = refl
-loop_by false f b true g d true o = refl
-loop_by false f b true g d false o = refl
-loop_by false true b false g d e o = refl
-loop_by false false true false g d true o = refl
-loop_by false false true false g d false o = refl
-loop_by false false false false g d true o = refl
-loop_by false false false false g d false o = refl
-
--- what stands before a loop: t of its target, f and b of its body, whose own names are s, and e of that behind the loop, g and d of
--- what stands in its place where there are no items
-pub looped : (t f b s g d e l : Names) → t ∪ (((f ∪ (nobody ∖ b)) ∖ s) ∪ ((g ∪ (l ∖ d)) ∖ e)) ≡ (t ∪ ((f ∖ s) ∪ (g ∖ e))) ∪ (l ∖ (e ∪ d))
-looped t f b s g d e l =
-    fun_ext (λ n. loop_by (t n) (f n) (b n) (s n) (g n) (d n) (e n) (l n))
-
 -- names that are taken away in three steps
 pub without_three : (l p q r whole m n o : Names) → m ≡ l ∖ p → n ≡ m ∖ q → o ≡ n ∖ r → p ∪ (q ∪ r) ≡ whole → o ≡ l ∖ whole
 without_three l p q r whole m n o first second third is =

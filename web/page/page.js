@@ -182,12 +182,15 @@ class Page {
     }
 
     async askUntilSettled() {
-        while (this.isChanged) {
-            this.isChanged = false;
-            this.element("status").textContent = "rendering";
-            await this.askAll();
+        try {
+            while (this.isChanged) {
+                this.isChanged = false;
+                this.element("status").textContent = "rendering";
+                await this.askAll();
+            }
+        } finally {
+            this.isAsking = false;
         }
-        this.isAsking = false;
     }
 
     async askAll() {
@@ -198,8 +201,8 @@ class Page {
             return { ...answer, names: answer.text?.split("\n").filter(line => line) };
         };
         const variables = await names({ subject: "variables", name: templates[open].name });
-        // Where the templates alone take too long, so would any further question about them.
-        if (variables.lacks === "time") return this.show(variables);
+        // Where the templates alone take too long, so would any further question about them, and an engine that fails would fail again.
+        if (variables.lacks === "time" || variables.failed) return this.show(variables);
         const components = await names({ subject: "components" });
         this.showNames(variables.names, components.names);
         this.show(await this.engine.ask({ ...common, subject, name, json: data }));

@@ -40,22 +40,24 @@ class Page {
         on("tabs", "keydown", event => this.stepThroughTabs(event));
         on("go", "click", () => this.goToFault());
         on("link", "click", () => this.copyLink());
-        on("examples", "change", ({ target }) => this.load(EXAMPLES[Number(target.value)]));
+        on("examples", "change", ({ target }) => this.loadExample(EXAMPLES[Number(target.value)]));
         this.element("examples").replaceChildren(...EXAMPLES.map(({ title }, place) => new Option(title, place)));
         addEventListener("hashchange", () => location.hash !== this.hash && this.open());
     }
 
-    // Begins with the state in the link, or with the first example.
+    // Begins with the state in the link, or with the first example. What stands there already stays where a link cannot be read.
     async open() {
-        if (location.hash.length > 1) {
-            try {
-                await this.load(await read(location.hash.slice(1)));
-                return;
-            } catch (error) {
-                this.element("name-trouble").textContent = `The link cannot be read: ${error.message}.`;
-            }
-        }
-        await this.load(EXAMPLES[0]);
+        const letters = location.hash.slice(1), state = letters && await read(letters).catch(() => null);
+        if (state) return this.load(state);
+        if (!this.state) await this.load(EXAMPLES[0]);
+        if (letters) this.element("name-trouble").textContent = "The link cannot be read.";
+    }
+
+    // The browser's button Back leads to what stood there before.
+    async loadExample(example) {
+        await this.writeLink();
+        history.pushState(null, "", location.href);
+        await Promise.all([this.load(example), this.writeLink()]);
     }
 
     async load(state) {
@@ -170,7 +172,7 @@ class Page {
 
     changed() {
         this.drawSubjects();
-        this.writeLink();
+        this.writeLinkSoon();
         return this.ask();
     }
 
@@ -269,19 +271,33 @@ class Page {
 
     // The link.
 
+    // The address follows when there is no change for a moment, since browsers refuse many changes of it in a short time.
+    writeLinkSoon() {
+        clearTimeout(this.lateLink);
+        this.lateLink = setTimeout(() => this.writeLink(), 300);
+    }
+
+    // Answers whether there is a link for what stands there now.
     async writeLink() {
-        const { state } = this, turn = (this.links = (this.links ?? 0) + 1), letters = await written(state);
-        if (turn < this.links) return;
-        this.hash = `#${letters}`;
-        history.replaceState(null, "", this.hash);
+        clearTimeout(this.lateLink);
+        const turn = (this.links = (this.links ?? 0) + 1);
+        try {
+            const hash = `#${await written(this.state)}`;
+            if (turn === this.links) {
+                history.replaceState(null, "", hash);
+                this.hash = hash;
+            }
+            return true;
+        } catch {
+            return false;
+        }
     }
 
     async copyLink() {
-        const button = this.element("link");
-        await this.writeLink();
+        const button = this.element("link"), isThere = await this.writeLink();
         try {
-            await navigator.clipboard.writeText(location.href);
-            button.textContent = "Copied";
+            if (isThere) await navigator.clipboard.writeText(location.href);
+            button.textContent = isThere ? "Copied" : "Too long for a link";
         } catch {
             button.textContent = "Copy it from the address";
         }

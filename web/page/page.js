@@ -2,6 +2,8 @@
 
 // The page: what is written on the left is asked of the engine, and shown on the right.
 const LIMIT = 3000;
+// Of a longer text a browser would take many seconds to show all.
+const MOST_SHOWN = 1_000_000;
 const LACKS = {
     time: `This took more than ${LIMIT / 1000} seconds, so it was ended. The page goes on with your next change.`,
     memory: "This wants more memory than the page gives to a rendering, so it was ended. The page goes on.",
@@ -11,6 +13,7 @@ const LACKS = {
 class Page {
     constructor() {
         this.engine = new Engine(LIMIT);
+        this.preview = new Preview(this.element("preview"));
         this.editor = new Editor(this.element("template"), text => {
             this.state.templates[this.state.open].text = text;
             this.fault = null;
@@ -66,7 +69,7 @@ class Page {
         this.components = [];
         this.fault = null;
         this.element("examples").selectedIndex = EXAMPLES.findIndex(example => example.title === title);
-        this.element("output").textContent = this.element("preview").srcdoc = "";
+        this.showOutput("");
         this.element("data").value = this.state.data;
         this.element("autoescape").checked = this.state.autoescape;
         this.element("decimals").checked = this.state.decimals;
@@ -235,14 +238,21 @@ class Page {
             this.element("message").textContent = message;
             this.element("words").textContent = words.join("\n");
         } else {
-            this.element("output").textContent = text;
-            this.element("preview").srcdoc = text;
+            this.showOutput(text);
         }
         for (const id of ["output", "preview"]) this.element(id).classList.toggle("stale", !isMade);
         this.element("status").textContent = isMade ? `${took.toFixed(1)} ms` : "no output";
         this.firstShown ??= performance.now();
         this.drawTabs();
         this.markFault();
+    }
+
+    showOutput(text) {
+        const shown = text.slice(0, MOST_SHOWN), told = count => count.toLocaleString("en");
+        const isCut = shown.length < text.length;
+        this.element("output-name").textContent = isCut ? `Output, the first ${told(MOST_SHOWN)} of ${told(text.length)} characters` : "Output";
+        this.element("output").textContent = shown;
+        this.preview.show(shown);
     }
 
     // The fault with its template, line and column, and what is told of it beside these, if its words begin with them. Where a batch does not go

@@ -144,8 +144,10 @@ class Page {
 
     removeTemplate() {
         const [{ name }] = this.state.templates.splice(this.state.open, 1);
-        if (this.state.name === name) this.state.name = this.state.templates[0].name;
+        if (this.state.subject === "template" && this.state.name === name) this.state.name = this.state.templates[0].name;
         this.openTemplate(Math.max(0, this.state.open - 1));
+        // A button that is disabled loses the focus.
+        if (this.element("remove").disabled) this.element("tabs").firstChild.focus();
         this.changed();
     }
 
@@ -234,7 +236,8 @@ class Page {
         this.element("go").hidden = !this.fault;
         if (!isMade) {
             const [message, ...words] = (fault ? fault.words : LACKS[lacks] ?? failed).split("\n");
-            this.element("kind").textContent = fault ? fault.kind : lacks ? `Not enough ${lacks}` : "The engine failed";
+            const kind = this.fault?.isInData ? "The data cannot be read" : fault?.kind;
+            this.element("kind").textContent = kind ?? (lacks ? `Not enough ${lacks}` : "The engine failed");
             this.element("message").textContent = message;
             this.element("words").textContent = words.join("\n");
         } else {
@@ -264,7 +267,10 @@ class Page {
                 return { ...fault, file, line: Number(lineNumber), column: Number(column), word };
             }
         }
-        return fault.file === undefined ? null : { ...fault, word: fault.kind };
+        if (fault.file !== undefined) return { ...fault, word: fault.kind };
+        // Where the data cannot be read, the words begin with a place in it.
+        const [, line, column] = /^line (\d+), column (\d+): /.exec(fault.words) ?? [];
+        return line ? { ...fault, isInData: true, line: Number(line), column: Number(column) } : null;
     }
 
     markFault() {
@@ -273,6 +279,11 @@ class Page {
     }
 
     goToFault() {
+        if (this.fault.isInData) {
+            const data = this.element("data"), start = indexOfColumn(data.value, this.fault.line, this.fault.column);
+            selectIn(data, start, start + 1);
+            return;
+        }
         const place = this.state.templates.findIndex(({ name }) => name === this.fault.file);
         if (place < 0) return;
         this.openTemplate(place);

@@ -27,25 +27,37 @@ class Engine {
         this.limit = limit;
         this.asked = 0;
         this.source = URL.createObjectURL(new Blob([`(${engineWorker})()`], { type: "text/javascript" }));
-        this.module = Engine.compile(ENGINE);
+        this.module = Engine.compile(() => ENGINE);
         this.whole = null;
         this.start();
     }
 
     // A module is packed by gzip and written in base64.
-    static compile(packed) {
-        const stream = new Blob([bytesOf(packed)]).stream().pipeThrough(new DecompressionStream("gzip"));
+    static async compile(packed) {
+        const stream = new Blob([bytesOf(packed())]).stream().pipeThrough(new DecompressionStream("gzip"));
         return WebAssembly.compileStreaming(new Response(stream, { headers: { "Content-Type": "application/wasm" } }));
     }
 
     start() {
-        this.worker = new Worker(this.source);
-        this.isReady = this.module.then(module => this.handOver(module));
+        this.isReady = this.startWorker();
+        // Where a browser has no WebAssembly or starts no Worker, each question is answered so.
+        this.isReady.catch(() => {});
+    }
+
+    async startWorker() {
+        this.worker?.terminate();
+        const { module } = this, worker = (this.worker = new Worker(this.source));
+        const failing = new Promise((_, reject) => {
+            worker.onerror = event => {
+                event.preventDefault();
+                reject(new Error(event.message || "no Worker can be started"));
+            };
+        });
+        await Promise.race([failing, module.then(compiled => this.handOver(compiled, worker))]);
     }
 
     // Gives the Worker the module of which it is asked from here on.
-    handOver(module) {
-        const { worker } = this;
+    handOver(module, worker) {
         return new Promise(resolve => {
             worker.addEventListener("message", resolve, { once: true });
             worker.postMessage(module);
@@ -55,9 +67,9 @@ class Engine {
     // Takes the whole module in place of the first, which leaves out what few templates need.
     async takeWhole() {
         await runScript("whole.js");
-        const module = await Engine.compile(WHOLE);
+        const module = await Engine.compile(() => WHOLE);
         this.module = Promise.resolve(module);
-        this.isReady = this.handOver(module);
+        this.isReady = this.handOver(module, this.worker);
     }
 
     // What the engine answers; or that it lacked `time`, and then its Worker is another from here on. Where a question reaches what the first
@@ -76,7 +88,12 @@ class Engine {
     }
 
     async askOnce(question) {
-        await this.isReady;
+        try {
+            await this.isReady;
+        } catch (error) {
+            this.start();
+            return { failed: error.message };
+        }
         const { worker } = this, number = ++this.asked;
         return new Promise(resolve => {
             const end = answer => {

@@ -18,6 +18,14 @@ function markOf(text, { start, end, line, column, word }) {
     return { start: index, end: index + /^\w*/.exec(text.slice(index))[0].length, word };
 }
 
+// Selects a part of a text area, and shows the line where it begins.
+function selectIn(area, start, end) {
+    const lines = area.value.split("\n").length, line = area.value.slice(0, start).split("\n").length - 1;
+    area.focus();
+    area.setSelectionRange(start, end);
+    area.scrollTop = area.scrollHeight * line / lines - area.clientHeight / 2;
+}
+
 // A text area over a sheet of the same text, on which faults are marked, with the numbers of the lines beside it.
 class Editor {
     constructor(frame, changed) {
@@ -49,24 +57,28 @@ class Editor {
     goToMark() {
         this.area.focus();
         if (!this.mark) return;
-        const { start, end } = this.mark, lines = this.area.value.split("\n").length;
-        const line = this.area.value.slice(0, start).split("\n").length - 1;
-        this.area.setSelectionRange(start, end);
-        this.area.scrollTop = this.area.scrollHeight * line / lines - this.area.clientHeight / 2;
+        selectIn(this.area, this.mark.start, this.mark.end);
+        this.area.scrollLeft = this.sheet.querySelector("mark").offsetLeft - this.area.clientWidth / 2;
         this.follow();
     }
 
     draw() {
         const { value } = this.area;
         const faulty = this.mark ? value.slice(0, this.mark.start).split("\n").length : 0;
-        this.numbers.replaceChildren(...value.split("\n").map((_, place) => {
-            const number = document.createElement("span");
-            number.textContent = `${place + 1}\n`;
-            if (place + 1 === faulty) number.className = "faulty";
-            return number;
-        }));
+        this.drawNumbers(value.split("\n").length, faulty);
         this.sheet.replaceChildren(...(this.mark ? this.marked(value) : []));
         this.follow();
+    }
+
+    // Few nodes, and drawn only when they change: a template may have very many lines.
+    drawNumbers(count, faulty) {
+        if (this.drawn === `${count} ${faulty}`) return;
+        this.drawn = `${count} ${faulty}`;
+        const numbers = (first, last) => Array.from({ length: last - first + 1 }, (_, place) => `${first + place}\n`).join("");
+        const number = document.createElement("span");
+        number.className = "faulty";
+        number.textContent = faulty ? `${faulty}\n` : "";
+        this.numbers.replaceChildren(numbers(1, faulty - 1), number, numbers(faulty + 1, count));
     }
 
     marked(value) {

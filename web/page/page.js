@@ -2,6 +2,8 @@
 
 // The page: what is written on the left is asked of the engine, and shown on the right.
 const LIMIT = 3000;
+// Of a longer text a browser would take many seconds to show all.
+const MOST_SHOWN = 1_000_000;
 const LACKS = {
     time: `This took more than ${LIMIT / 1000} seconds, so it was ended. The page goes on with your next change.`,
     memory: "This wants more memory than the page gives to a rendering, so it was ended. The page goes on.",
@@ -11,6 +13,7 @@ const LACKS = {
 class Page {
     constructor() {
         this.engine = new Engine(LIMIT);
+        this.preview = new Preview(this.element("preview"));
         this.editor = new Editor(this.element("template"), text => {
             this.state.templates[this.state.open].text = text;
             this.fault = null;
@@ -40,22 +43,24 @@ class Page {
         on("tabs", "keydown", event => this.stepThroughTabs(event));
         on("go", "click", () => this.goToFault());
         on("link", "click", () => this.copyLink());
-        on("examples", "change", ({ target }) => this.load(EXAMPLES[Number(target.value)]));
+        on("examples", "change", ({ target }) => this.loadExample(EXAMPLES[Number(target.value)]));
         this.element("examples").replaceChildren(...EXAMPLES.map(({ title }, place) => new Option(title, place)));
         addEventListener("hashchange", () => location.hash !== this.hash && this.open());
     }
 
-    // Begins with the state in the link, or with the first example.
+    // Begins with the state in the link, or with the first example. What stands there already stays where a link cannot be read.
     async open() {
-        if (location.hash.length > 1) {
-            try {
-                await this.load(await read(location.hash.slice(1)));
-                return;
-            } catch (error) {
-                this.element("name-trouble").textContent = `The link cannot be read: ${error.message}.`;
-            }
-        }
-        await this.load(EXAMPLES[0]);
+        const letters = location.hash.slice(1), state = letters && await read(letters).catch(() => null);
+        if (state) return this.load(state);
+        if (!this.state) await this.load(EXAMPLES[0]);
+        if (letters) this.element("name-trouble").textContent = "The link cannot be read.";
+    }
+
+    // The browser's button Back leads to what stood there before.
+    async loadExample(example) {
+        await this.writeLink();
+        history.pushState(null, "", location.href);
+        await Promise.all([this.load(example), this.writeLink()]);
     }
 
     async load(state) {
@@ -64,7 +69,7 @@ class Page {
         this.components = [];
         this.fault = null;
         this.element("examples").selectedIndex = EXAMPLES.findIndex(example => example.title === title);
-        this.element("output").textContent = this.element("preview").srcdoc = "";
+        this.showOutput("");
         this.element("data").value = this.state.data;
         this.element("autoescape").checked = this.state.autoescape;
         this.element("decimals").checked = this.state.decimals;
@@ -139,8 +144,10 @@ class Page {
 
     removeTemplate() {
         const [{ name }] = this.state.templates.splice(this.state.open, 1);
-        if (this.state.name === name) this.state.name = this.state.templates[0].name;
+        if (this.state.subject === "template" && this.state.name === name) this.state.name = this.state.templates[0].name;
         this.openTemplate(Math.max(0, this.state.open - 1));
+        // A button that is disabled loses the focus.
+        if (this.element("remove").disabled) this.element("tabs").firstChild.focus();
         this.changed();
     }
 
@@ -170,7 +177,7 @@ class Page {
 
     changed() {
         this.drawSubjects();
-        this.writeLink();
+        this.writeLinkSoon();
         return this.ask();
     }
 
@@ -182,12 +189,15 @@ class Page {
     }
 
     async askUntilSettled() {
-        while (this.isChanged) {
-            this.isChanged = false;
-            this.element("status").textContent = "rendering";
-            await this.askAll();
+        try {
+            while (this.isChanged) {
+                this.isChanged = false;
+                this.element("status").textContent = "rendering";
+                await this.askAll();
+            }
+        } finally {
+            this.isAsking = false;
         }
-        this.isAsking = false;
     }
 
     async askAll() {
@@ -198,8 +208,8 @@ class Page {
             return { ...answer, names: answer.text?.split("\n").filter(line => line) };
         };
         const variables = await names({ subject: "variables", name: templates[open].name });
-        // Where the templates alone take too long, so would any further question about them.
-        if (variables.lacks === "time") return this.show(variables);
+        // Where the templates alone take too long, so would any further question about them, and an engine that fails would fail again.
+        if (variables.lacks === "time" || variables.failed) return this.show(variables);
         const components = await names({ subject: "components" });
         this.showNames(variables.names, components.names);
         this.show(await this.engine.ask({ ...common, subject, name, json: data }));
@@ -226,18 +236,26 @@ class Page {
         this.element("go").hidden = !this.fault;
         if (!isMade) {
             const [message, ...words] = (fault ? fault.words : LACKS[lacks] ?? failed).split("\n");
-            this.element("kind").textContent = fault ? fault.kind : lacks ? `Not enough ${lacks}` : "The engine failed";
+            const kind = this.fault?.isInData ? "The data cannot be read" : fault?.kind;
+            this.element("kind").textContent = kind ?? (lacks ? `Not enough ${lacks}` : "The engine failed");
             this.element("message").textContent = message;
             this.element("words").textContent = words.join("\n");
         } else {
-            this.element("output").textContent = text;
-            this.element("preview").srcdoc = text;
+            this.showOutput(text);
         }
         for (const id of ["output", "preview"]) this.element(id).classList.toggle("stale", !isMade);
         this.element("status").textContent = isMade ? `${took.toFixed(1)} ms` : "no output";
         this.firstShown ??= performance.now();
         this.drawTabs();
         this.markFault();
+    }
+
+    showOutput(text) {
+        const shown = text.slice(0, MOST_SHOWN), told = count => count.toLocaleString("en");
+        const isCut = shown.length < text.length;
+        this.element("output-name").textContent = isCut ? `Output, the first ${told(MOST_SHOWN)} of ${told(text.length)} characters` : "Output";
+        this.element("output").textContent = shown;
+        this.preview.show(shown);
     }
 
     // The fault with its template, line and column, and what is told of it beside these, if its words begin with them. Where a batch does not go
@@ -249,7 +267,10 @@ class Page {
                 return { ...fault, file, line: Number(lineNumber), column: Number(column), word };
             }
         }
-        return fault.file === undefined ? null : { ...fault, word: fault.kind };
+        if (fault.file !== undefined) return { ...fault, word: fault.kind };
+        // Where the data cannot be read, the words begin with a place in it.
+        const [, line, column] = /^line (\d+), column (\d+): /.exec(fault.words) ?? [];
+        return line ? { ...fault, isInData: true, line: Number(line), column: Number(column) } : null;
     }
 
     markFault() {
@@ -258,6 +279,11 @@ class Page {
     }
 
     goToFault() {
+        if (this.fault.isInData) {
+            const data = this.element("data"), start = indexOfColumn(data.value, this.fault.line, this.fault.column);
+            selectIn(data, start, start + 1);
+            return;
+        }
         const place = this.state.templates.findIndex(({ name }) => name === this.fault.file);
         if (place < 0) return;
         this.openTemplate(place);
@@ -266,19 +292,33 @@ class Page {
 
     // The link.
 
+    // The address follows when there is no change for a moment, since browsers refuse many changes of it in a short time.
+    writeLinkSoon() {
+        clearTimeout(this.lateLink);
+        this.lateLink = setTimeout(() => this.writeLink(), 300);
+    }
+
+    // Answers whether there is a link for what stands there now.
     async writeLink() {
-        const { state } = this, turn = (this.links = (this.links ?? 0) + 1), letters = await written(state);
-        if (turn < this.links) return;
-        this.hash = `#${letters}`;
-        history.replaceState(null, "", this.hash);
+        clearTimeout(this.lateLink);
+        const turn = (this.links = (this.links ?? 0) + 1);
+        try {
+            const hash = `#${await written(this.state)}`;
+            if (turn === this.links) {
+                history.replaceState(null, "", hash);
+                this.hash = hash;
+            }
+            return true;
+        } catch {
+            return false;
+        }
     }
 
     async copyLink() {
-        const button = this.element("link");
-        await this.writeLink();
+        const button = this.element("link"), isThere = await this.writeLink();
         try {
-            await navigator.clipboard.writeText(location.href);
-            button.textContent = "Copied";
+            if (isThere) await navigator.clipboard.writeText(location.href);
+            button.textContent = isThere ? "Copied" : "Too long for a link";
         } catch {
             button.textContent = "Copy it from the address";
         }

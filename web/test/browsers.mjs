@@ -126,9 +126,13 @@ export class Chromium {
 export class Firefox {
     static name = "Firefox";
 
-    static async start() {
-        const words = home => ["--headless", "--no-remote", "--remote-debugging-port=0", "--profile", home, "about:blank"];
+    static async start(theme = "light") {
+        const words = home => {
+            fs.writeFileSync(path.join(home, "user.js"), `user_pref("layout.css.prefers-color-scheme.content-override", ${theme === "dark" ? 0 : 1});\n`);
+            return ["--headless", "--no-remote", "--remote-debugging-port=0", "--profile", home, "about:blank"];
+        };
         const browser = new Firefox();
+        browser.theme = theme;
         browser.program = await started("firefox-esr", words, /WebDriver BiDi listening on ws:\/\/(\S+)/);
         browser.wire = await Wire.to(`ws://${browser.program.address}/session`);
         await browser.wire.call("session.new", { capabilities: {} });
@@ -150,7 +154,12 @@ export class Firefox {
         return JSON.parse(result.value);
     }
 
-    async look(width, height) {
+    // A theme is a setting with which Firefox begins.
+    async look(width, height, theme) {
+        if (theme !== this.theme) {
+            await this.end();
+            Object.assign(this, await Firefox.start(theme));
+        }
         await this.wire.call("browsingContext.setViewport", { context: this.context, viewport: { width, height } });
     }
 

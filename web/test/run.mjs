@@ -1,10 +1,13 @@
 // Tests the page in one browser: node run.mjs BROWSER PAGE PICTURES TABLES SCRIPTS.., where BROWSER is chromium or firefox, PAGE the folder of the page,
 // PICTURES a folder for pictures, TABLES one of tests with tables, and each of SCRIPTS a folder of scripts with their replies. Prints a line for each
 // test; what is wrong goes to standard error, and then the status is 1.
+import fs from "node:fs";
 import http from "node:http";
+import os from "node:os";
 import path from "node:path";
 import process from "node:process";
 import { pathToFileURL } from "node:url";
+import zlib from "node:zlib";
 import { Chromium, Firefox } from "./browsers.mjs";
 import { FAULTS } from "./faults.mjs";
 import { compareScripts } from "./scripts.mjs";
@@ -13,7 +16,8 @@ import { compareTables } from "./tables.mjs";
 const MOST_MILLISECONDS = 500;
 const [chosen, folder, pictures, tables, ...scripts] = process.argv.slice(2);
 const Browser = { chromium: Chromium, firefox: Firefox }[chosen];
-const address = pathToFileURL(path.join(folder, "index.html")).href;
+const addressIn = place => pathToFileURL(path.join(place, "index.html")).href;
+const address = addressIn(folder);
 let failed = false;
 
 function tell(what, isFine, more = "") {
@@ -26,7 +30,11 @@ function tell(what, isFine, more = "") {
 }
 
 const inWords = value => JSON.stringify(value);
-const isShown = "while (typeof page === 'undefined' || !page.answer) await new Promise(resolve => setTimeout(resolve, 5));";
+const isShown = `
+    while (typeof page === "undefined" || !page.answer) {
+        if (performance.now() > 30000) throw new Error("the page shows nothing");
+        await new Promise(resolve => setTimeout(resolve, 5));
+    }`;
 
 // Opens the page anew, and waits until it shows something.
 async function open(browser, link = "") {
@@ -188,13 +196,11 @@ async function testLimitsWithSecondScript(browser) {
     tell("three questions at once, of which two need it", answers.map(({ text }) => text).join() === "true,1,truetrue", inWords(answers));
 }
 
-// A server of this machine that counts what is asked of it.
+// A server of this machine that counts who comes to it, with a request or without one.
 async function countingServer() {
-    const server = http.createServer((_, reply) => {
-        server.count += 1;
-        reply.end();
-    });
+    const server = http.createServer((_, reply) => reply.end());
     server.count = 0;
+    server.on("connection", () => (server.count += 1));
     await new Promise(resolve => server.listen(0, "127.0.0.1", resolve));
     server.place = `http://127.0.0.1:${server.address().port}`;
     return server;
@@ -206,15 +212,17 @@ async function testHostileData(browser) {
     const script = `<script>parent.postMessage("ran", "*")</script><img src="x" onerror="parent.postMessage('ran', '*')">`;
     const fetching = `<link rel="stylesheet" href="${there}/a.css"><img src="${there}/b.png"><iframe src="${there}/c.html"></iframe>`
         + `<meta http-equiv="refresh" content="0;url=${there}/d.html">`;
+    const ahead = `<link rel="preconnect" href="${there}">`, aheadWithin = `<iframe srcdoc='${ahead}'></iframe>`
+        + `<div><template shadowrootmode="open">${ahead}</template></div>`;
     await open(browser);
     await browser.run(`addEventListener("message", ({ data }) => (window.ran = data)); return true;`);
-    const answer = await showText(browser, "{{ a | safe }}", { data: inWords({ a: script + fetching }) });
+    const answer = await showText(browser, "{{ a | safe }}", { data: inWords({ a: script + fetching + ahead + aheadWithin }) });
     const ran = await browser.run(`
         await new Promise(resolve => setTimeout(resolve, 1000));
         return window.ran ?? null;`);
     server.close();
     tell("an unsafe script in the data does not run in the preview", answer.text?.startsWith(script) && ran === null, ran ?? "");
-    tell("the preview fetches nothing", server.count === 0, server.count ? `${server.count} requests` : "");
+    tell("the preview fetches nothing, and connects to nothing", server.count === 0, server.count ? `${server.count} connections` : "");
     const escaped = await showText(browser, "{{ a }}", { data: inWords({ a: script }) });
     tell("the same data is escaped where it is not marked safe", escaped.text?.startsWith("&lt;script&gt;"));
 }
@@ -231,8 +239,100 @@ async function testLink(browser) {
     const isFine = before.text === "Hello, &lt;Ines&gt;!" && told.answer === before.text && told.open === 1 && told.names[0] === "a b.html"
         && told.text === "Ünïcode 東京" && told.subject === "component Hello";
     tell("the link of a state, opened anew", isFine, isFine ? `${link.length} letters` : inWords({ before, told }));
-    await open(browser, "#1.nonsense");
-    tell("a link that cannot be read", await isAlive(browser));
+}
+
+const linkOf = text => `#1.${zlib.deflateRawSync(text).toString("base64").replaceAll("+", "-").replaceAll("/", "_").replaceAll("=", "")}`;
+const stateOf = text => `{"templates": [{"name": "a", "text": ${inWords(text)}}], "data": "{}", "name": "a"}`;
+
+// Links from anyone: what cannot be read is told, and so is what would unpack to too much; and a text is taken as the editor has it.
+async function testHostileLinks(browser) {
+    const others = [], trouble = () => browser.run(`return document.getElementById("name-trouble").textContent;`);
+    for (const link of ["#1.nonsense", "#2.abc", "#top", "#1.%E0", linkOf("{"), linkOf("null"), linkOf("{}"), linkOf(stateOf("a".repeat(50_000_000)))]) {
+        const begun = Date.now();
+        await open(browser, link);
+        if (await trouble() !== "The link cannot be read." || Date.now() - begun > 5000 || !(await isAlive(browser))) others.push(link.slice(0, 40));
+    }
+    tell("links that cannot be read", others.length === 0, others.join(" "));
+    await open(browser, linkOf(stateOf("one\r\ntwo\rthree {{ nobody }}")));
+    const mark = await browser.run(`return document.querySelector("mark")?.textContent ?? null;`);
+    tell("a fault behind ends of lines of other systems is marked at its place", mark === "nobody", mark ?? "");
+}
+
+// A change leaves no step for the browser's button Back. An example does, and leads back to what stood there before.
+async function testBack(browser) {
+    await open(browser);
+    const told = await browser.run(`
+        const pause = time => new Promise(resolve => setTimeout(resolve, time)), steps = [history.length];
+        const area = document.getElementById("text"), examples = document.getElementById("examples");
+        for (const letter of "abc") {
+            area.value += letter;
+            area.dispatchEvent(new Event("input"));
+            await page.ask();
+            await pause(200);
+        }
+        steps.push(history.length);
+        examples.value = 1;
+        examples.dispatchEvent(new Event("change"));
+        await pause(500);
+        steps.push(history.length);
+        const example = page.state.name;
+        history.back();
+        await pause(1000);
+        return { steps, example, back: page.state.templates[0].text.slice(-3) };`);
+    const [first, changed, loaded] = told.steps;
+    const isFine = changed === first && loaded === first + 1 && told.example === "mail.txt" && told.back === "abc";
+    tell("the browser's button Back", isFine, isFine ? "" : inWords(told));
+}
+
+// Where parts of the page are missing or refused, it says so.
+async function testFailing(browser) {
+    const place = fs.mkdtempSync(path.join(os.tmpdir(), "page-"));
+    const hide = name => copy => fs.rmSync(path.join(copy, name)), edit = (from, to) => copy => {
+        const file = path.join(copy, "index.html"), text = fs.readFileSync(file, "utf8");
+        fs.writeFileSync(file, text.replace(from, to));
+    };
+    const others = [], needs = WHOLE[0][0];
+    for (const [what, change, text, goesOn] of [
+        ["engine.js is missing", hide("engine.js"), "a", false], ["no WebAssembly", edit(" 'wasm-unsafe-eval'", ""), "a", false],
+        ["no Worker", edit("worker-src blob:", "worker-src 'none'"), "a", false], ["whole.js is missing", hide("whole.js"), needs, true],
+        ["a folder of any name", () => {}, needs, true],
+    ]) {
+        const copy = path.join(place, `${what} 'ü' %20 #x ?`);
+        fs.cpSync(folder, copy, { recursive: true });
+        change(copy);
+        await browser.open(addressIn(copy));
+        await browser.run(`${isShown} return true;`);
+        const { failed: word, text: made } = await showText(browser, text);
+        const isTold = await browser.run(`return document.getElementById("kind").textContent === "The engine failed" && !document.getElementById("report").hidden;`);
+        if ((word ? !isTold : made !== WHOLE[0][1]) || goesOn !== await isAlive(browser)) others.push({ what, word, made });
+    }
+    fs.rmSync(place, { recursive: true });
+    tell("what is missing is told", others.length === 0, others.map(inWords).join("\n"));
+}
+
+// Long texts do not stop the page.
+async function testLongTexts(browser) {
+    await open(browser);
+    const lines = await browser.run(`
+        await page.load({ ...EXAMPLES[0], templates: [{ name: "page.html", text: "{{ 1 }}\\n".repeat(150000) + "{{ nobody }}" }] });
+        return [page.answer.fault?.line, document.querySelector(".numbers").textContent.length, document.querySelector(".numbers .faulty").textContent];`);
+    tell("a template of 150,001 lines", inWords(lines) === "[150001,938902,\"150001\\n\"]", inWords(lines));
+    const shown = await browser.run(`
+        const text = "{% for i in range(end=300) %}{% for j in range(end=10000) %}0123456789{% endfor %}{% endfor %}";
+        await page.load({ ...EXAMPLES[0], templates: [{ name: "page.html", text }] });
+        return [page.answer.text?.length, document.getElementById("output").textContent.length, document.getElementById("output-name").textContent];`);
+    const isFine = shown[0] === 30_000_000 && shown[1] === 1_000_000 && shown[2].endsWith("of 30,000,000 characters");
+    tell("a text of 30,000,000 characters is shown in part", isFine && await isAlive(browser), inWords(shown));
+}
+
+// Where the data cannot be read, the report leads to the place in it.
+async function testData(browser) {
+    await showText(browser, "a", { data: '{\n  "ü": x\n}' });
+    const told = await browser.run(`
+        document.getElementById("go").click();
+        const area = document.getElementById("data");
+        return [document.getElementById("kind").textContent, document.activeElement.id, area.value.slice(area.selectionStart, area.selectionEnd)];`);
+    tell("data that cannot be read", inWords(told) === '["The data cannot be read","data","x"]', inWords(told));
 }
 
 // Each part of the page is reached by the keyboard, and the arrows step through the tabs.
@@ -276,6 +376,15 @@ async function testTabs(browser) {
         return { trouble, added, tabs: element("tabs").textContent, subject: element("subject").value, fault: page.answer.fault ?? null };`);
     const isFine = told.trouble && told.added === "Oslo & Drammen" && !told.tabs.includes("new.txt") && told.subject === "template page.html" && !told.fault;
     tell("templates are added, named and removed", isFine, isFine ? "" : inWords(told));
+    const component = await show(browser, {
+        templates: [{ name: "page.html", text: "a" }, { name: "Note", text: "" }, { name: "c", text: "{% component Note() %}b{% endcomponent %}" }],
+        subject: "component", name: "Note", open: 1,
+    });
+    const after = await browser.run(`
+        document.getElementById("remove").click();
+        await page.ask();
+        return page.answer.text;`);
+    tell("a template with the name of the component that is shown is removed", component.text === "b" && after === "b", after ?? "");
 }
 
 async function takePictures(browser) {
@@ -284,10 +393,11 @@ async function takePictures(browser) {
         // The picture of the README: a fault, while the output of before is still there.
         ["edited", 1240, 740, "light", 0],
     ];
-    const wide = [];
+    const others = [];
     for (const [name, width, height, theme, example] of views) {
         await browser.look(width, height, theme);
         await open(browser);
+        if (await browser.run("return matchMedia('(prefers-color-scheme: dark)').matches;") !== (theme === "dark")) others.push(`${name} is not ${theme}`);
         await browser.run(`await page.load(EXAMPLES[${example}]); return true;`);
         if (name === "edited") await browser.run(`
             const area = document.getElementById("text");
@@ -295,10 +405,10 @@ async function takePictures(browser) {
             area.dispatchEvent(new Event("input"));
             await page.ask();
             return true;`);
-        if (await browser.run("return document.documentElement.scrollWidth > innerWidth;")) wide.push(name);
+        if (await browser.run("return document.documentElement.scrollWidth > innerWidth;")) others.push(`${name} is too wide`);
         await browser.picture(path.join(pictures, `${chosen}-${name}.png`));
     }
-    tell("pictures, none wider than its window", wide.length === 0, wide.join(", ") || pictures);
+    tell("pictures, none wider than its window, and one dark", others.length === 0, others.join(", ") || pictures);
 }
 
 async function testWithScripts(browser, scriptFolder) {
@@ -315,8 +425,9 @@ async function testWithTables(browser) {
 const browser = await Browser.start();
 try {
     for (const test of [
-        testOpening, testExamples, testFaults, testMark, testLimits, testWholeModule, testLimitsWithSecondScript, testHostileData, testLink, testKeyboard, testTabs,
-        takePictures,
+        // Steps back early: Firefox counts no more than fifty.
+        testOpening, testBack, testExamples, testFaults, testMark, testLimits, testWholeModule, testLimitsWithSecondScript, testHostileData, testLink,
+        testHostileLinks, testFailing, testLongTexts, testData, testKeyboard, testTabs, takePictures,
     ]) {
         try {
             await test(browser);

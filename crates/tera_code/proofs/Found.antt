@@ -1,5 +1,5 @@
 -- Blocks that are found one after another.
-use Rattle.std.proofs.Common.{◌≡◌, true, if◌then◌else◌, refl, List, [], ◌∷◌, ◌++◌, map, Result, OnOk, sym, ap, ap₂, ◌∙◌}
+use Rattle.std.proofs.Common.{◌≡◌, List, [], ◌∷◌, ◌++◌, map, Result, OnOk, sym, ap, ap₂, ◌∙◌}
 use Rattle.std.specs.declared.alloc.AllocError.{AllocError}
 use Rattle.std.proofs.lemmas.List.{map-append}
 use Rattle.tera_errors.specs.Site as site
@@ -7,9 +7,8 @@ use Rattle.tera_syntax_tree.specs.declared.node.Node.{Node}
 use Rattle.tera_syntax_tree.specs.Tree as tree
 use Rattle.tera_syntax_tree.specs.Tree.{body_of, other_of}
 use Rattle.tera_syntax_tree.specs.View.{node_of, nodes_of}
-use Rattle.tera_syntax_tree.specs.Gathered.{gathered, node_gathered, is_entered}
 use Rattle.tera_syntax_tree.specs.Blocks.{blocks, node_blocks, own_block}
-use Rattle.tera_syntax_tree.proofs.Walks.{found_in_turn, gathered_of_bodies}
+use Rattle.tera_syntax_tree.proofs.Walks.{found_in_turn, gathered_everywhere}
 use Rattle.tera_code.specs.declared.blocks.BlockCode.{BlockCode}
 use Rattle.tera_code.specs.Listing.{Listing}
 use Rattle.tera_code.specs.Blocks.{block_of, block_listing, block_listings}
@@ -23,16 +22,6 @@ found_block file old mid block body e h =
     ap (map block_of) e
     ∙ map-append block_of old (block ∷ [])
     ∙ ap (λ x. map block_of old ++ x ∷ []) h
-
--- what is gathered in blocks, too, is what a node gives by itself and what its bodies give
-pub gathered_everywhere : {A : Type 0} (own : tree.Node → List A) (n : tree.Node) → own n ++ (gathered true own (body_of n) ++ gathered true own (other_of n)) ≡ node_gathered true own n
-gathered_everywhere own n =
-    ap (λ b. own n ++ (if b then gathered true own (body_of n) ++ gathered true own (other_of n) else [])) (sym (is_always_entered n))
-    ∙ gathered_of_bodies true own n
-  where
-    is_always_entered : (n : tree.Node) → is_entered true n ≡ true
-    is_always_entered (tree.Block n body span) = refl
-    is_always_entered _ = refl
 
 -- those of a node are the block that it is, and those of its bodies
 pub found_in_node : (file : site.Name) (old middle last new : Kept) (node : Node) (body other : List Node) (r : Result (Unit {0}) AllocError)

@@ -10,8 +10,7 @@ use Rattle.tera_syntax_tree.specs.Includes.{includes, node_includes, own_include
 use Rattle.tera_syntax_tree.specs.Tree as tree
 use Rattle.tera_syntax_tree.specs.Tree.{body_of, other_of}
 use Rattle.tera_syntax_tree.specs.View.{node_of, nodes_of}
-use Rattle.tera_syntax_tree.proofs.Walks.{found_in_turn, gathered_of_bodies}
-use Rattle.tera_code.proofs.Found.{gathered_everywhere}
+use Rattle.tera_syntax_tree.proofs.Walks.{found_in_turn, gathered_everywhere, gathered_of_bodies}
 use Rattle.tera_registry.specs.declared.node_names.Naming.{Naming}
 use Rattle.tera_registry.specs.Naming.{in_blocks, named, node_named, own_name}
 

@@ -1,12 +1,11 @@
 -- What a node's bodies say of the node: its blocks and where they stand, and that all in it lies inside.
-use Rattle.std.proofs.Common.{◌≡◌, ℕ, ◌+◌, ◌<◌, true, if◌then◌else◌, refl, List, [], ◌∷◌, ◌++◌, length, drop, get_or, Result, Ok, Err, ap, sym, ◌∙◌, subst}
+use Rattle.std.proofs.Common.{◌≡◌, ℕ, ◌+◌, ◌<◌, List, [], ◌∷◌, ◌++◌, length, drop, get_or, Result, Ok, Err, ap, sym, ◌∙◌, subst}
 use Rattle.std.proofs.lemmas.List.{append_assoc, drop_more}
 use Rattle.tera_syntax_tokens.specs.declared.refusal.Refusal.{Refusal}
 use Rattle.tera_syntax_tree.specs.declared.node.Node as declared
 use Rattle.tera_syntax_tree.specs.declared.node.DefinedComponent.{DefinedComponent}
-use Rattle.tera_syntax_tree.specs.Tree.{Node, Block, body_of, other_of}
-use Rattle.tera_syntax_tree.specs.Gathered.{gathered, node_gathered, is_entered}
-use Rattle.tera_syntax_tree.proofs.Walks.{fold_of_bodies, gathered_of_bodies}
+use Rattle.tera_syntax_tree.specs.Tree.{Node, body_of, other_of}
+use Rattle.tera_syntax_tree.proofs.Walks.{fold_of_bodies}
 use Rattle.tera_syntax_tree.specs.Inside.{AllInside, BothInside, NodeInside, NodesInside}
 use Rattle.tera_syntax_tree.specs.View.{node_of, nodes_of, defined_of, definitions_of}
 use Rattle.tera_syntax.specs.declared.blocks.PlacedName.{PlacedName}
@@ -23,16 +22,6 @@ next_inside size nodes i n l e h =
 pub gathered_behind : (result : Result (Unit {0}) Refusal) (old middle new : List PlacedName) (a b : List NameAt) → names_of middle ≡ names_of old ++ a → Gathers b middle result new → Gathers (a ++ b) old result new
 gathered_behind (Ok done) old middle new a b m h = h ∙ ap (λ x. x ++ b) m ∙ append_assoc (names_of old) a b
 gathered_behind (Err refusal) old middle new a b m h = h
-
--- what is gathered in blocks, too, is what a node gives by itself and what its bodies give
-pub gathered_everywhere : {A : Type 0} (own : Node → List A) (n : Node) → own n ++ (gathered true own (body_of n) ++ gathered true own (other_of n)) ≡ node_gathered true own n
-gathered_everywhere own n =
-    ap (λ b. own n ++ (if b then gathered true own (body_of n) ++ gathered true own (other_of n) else [])) (sym (is_always_entered n))
-    ∙ gathered_of_bodies true own n
-  where
-    is_always_entered : (n : Node) → is_entered true n ≡ true
-    is_always_entered (Block n body span) = refl
-    is_always_entered _ = refl
 
 -- where a node lies inside, so do its bodies
 pub bodies_inside : (size : ℕ) (n : Node) → NodeInside size n → NodesInside size (body_of n) × NodesInside size (other_of n)

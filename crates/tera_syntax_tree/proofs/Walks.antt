@@ -1,5 +1,5 @@
 -- Folds of nodes, and walks over them.
-use Rattle.std.proofs.Common.{◌≡◌, ℕ, zero, suc, ◌+◌, ◌*◌, ◌<◌, Bool, true, false, ◌||◌, List, [], ◌∷◌, ◌++◌, length, get_or, if◌then◌else◌, Result, Ok, Err, OnOk, append_assoc, refl, map, ap, ap₂, subst₂, ◌∙◌, arith}
+use Rattle.std.proofs.Common.{◌≡◌, ℕ, zero, suc, ◌+◌, ◌*◌, ◌<◌, Bool, true, false, ◌||◌, List, [], ◌∷◌, ◌++◌, length, get_or, if◌then◌else◌, Result, Ok, Err, OnOk, append_assoc, refl, map, sym, ap, ap₂, subst₂, ◌∙◌, arith}
 use Rattle.tera_errors.specs.Site as site
 use Rattle.tera_syntax_tree.specs.declared.node.Node as declared
 use Rattle.std.proofs.lemmas.List.{map-append}
@@ -26,6 +26,16 @@ other_is_below n = let e = fold_of_bodies deepen 0 deepest n in omega (arith, e)
 pub gathered_of_bodies : {A : Type 0} (in_blocks : Bool) (own : Node → List A) (n : Node)
     → own n ++ (if is_entered in_blocks n then gathered in_blocks own (body_of n) ++ gathered in_blocks own (other_of n) else []) ≡ node_gathered in_blocks own n
 gathered_of_bodies in_blocks own n = fold_of_bodies (gather_node in_blocks own) [] gather_first n
+
+-- what is gathered in blocks, too, is what a node gives by itself and what its bodies give
+pub gathered_everywhere : {A : Type 0} (own : Node → List A) (n : Node) → own n ++ (gathered true own (body_of n) ++ gathered true own (other_of n)) ≡ node_gathered true own n
+gathered_everywhere own n =
+    ap (λ b. own n ++ (if b then gathered true own (body_of n) ++ gathered true own (other_of n) else [])) (sym (is_always_entered n))
+    ∙ gathered_of_bodies true own n
+  where
+    is_always_entered : (n : Node) → is_entered true n ≡ true
+    is_always_entered (Block n body span) = refl
+    is_always_entered _ = refl
 
 -- what is found where a walk finds what a node gives by itself, and then what is in its bodies
 pub found_in_turn : {B E : Type 0} (old middle last new own body other whole : List B) (r : Result (Unit {0}) E) → own ++ (body ++ other) ≡ whole

@@ -1,10 +1,10 @@
 use Rattle.std.proofs.Common.{◌++◌, ap₂, sym, ◌∙◌, subst, ◌<◌}
 use Rattle.tera_syntax_tree.specs.Inside.{NodesInside}
 use Rattle.tera_syntax_tree.specs.View.{node_of, nodes_of}
-use Rattle.tera_syntax_tree.proofs.Walks.{falls_to_body, falls_to_node, node_measure, nodes_measure}
+use Rattle.tera_syntax_tree.proofs.Walks.{falls_to_body, falls_to_node, gathered_everywhere, node_measure, nodes_measure}
 use Rattle.tera_syntax.specs.Names.{blocks_at, own_block_at}
 use Rattle.tera_syntax.specs.View.{Gathers}
-use Rattle.tera_syntax.proofs.Gathered.{bodies_inside, gathered_behind, gathered_everywhere}
+use Rattle.tera_syntax.proofs.Gathered.{bodies_inside, gathered_behind}
 use Rattle.tera_syntax.proofs.blocks.+names.Goals as goal
 
 pub gather-gather_node-requires : goal.gather-gather_node-requires

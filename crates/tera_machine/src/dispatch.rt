@@ -5,7 +5,7 @@ ghost use Rattle.std.specs.Prelude.{◌≡◌, ◌∷◌, OnOk};
 ghost use Rattle.tera_errors.specs.Prelude.{Site};
 ghost use Rattle.tera_values.specs.Prelude.{int};
 ghost use Rattle.tera_machine.specs.Did.{pushed};
-ghost use Rattle.tera_machine.specs.Dispatch.{CanRun, HasRun};
+ghost use Rattle.tera_machine.specs.Dispatch.{CanRun, HasRun, IsLeft};
 ghost use Rattle.tera_machine.specs.Effect.{effect, CanDo, Does, continue_after, continue_if_written, name_written, name_loaded};
 ghost use Rattle.tera_machine.specs.Subject.{here_of};
 ghost use Rattle.tera_state.specs.Prelude.{around_of};
@@ -74,7 +74,8 @@ impl<'c> Configuration<'c> {
         instruction: &LentInstruction<'f>,
         steps: &mut Steps<T>,
     ) -> FlowResult<'f>
-        requires { CanRun O.engine machine.now chunk.now at.old instruction.now self.old }
+        requires can { CanRun O.engine machine.now chunk.now at.old instruction.now self.old }
+        requires left { IsLeft 1 instruction.now }
         ensures { HasRun O.engine machine.now chunk.now at.old steps.old self.old
             result at.new steps.new self.new }
     {
@@ -102,7 +103,8 @@ impl<'c> Configuration<'c> {
         instruction: &LentInstruction<'f>,
         steps: &mut Steps<T>,
     ) -> FlowResult<'f>
-        requires { CanRun O.engine machine.now chunk.now at.old instruction.now self.old }
+        requires can { CanRun O.engine machine.now chunk.now at.old instruction.now self.old }
+        requires left { IsLeft 2 instruction.now }
         ensures { HasRun O.engine machine.now chunk.now at.old steps.old self.old
             result at.new steps.new self.new }
     {
@@ -132,7 +134,8 @@ impl<'c> Configuration<'c> {
         instruction: &LentInstruction<'f>,
         steps: &mut Steps<T>,
     ) -> FlowResult<'f>
-        requires { CanRun O.engine machine.now chunk.now at.old instruction.now self.old }
+        requires can { CanRun O.engine machine.now chunk.now at.old instruction.now self.old }
+        requires left { IsLeft 3 instruction.now }
         ensures { HasRun O.engine machine.now chunk.now at.old steps.old self.old
             result at.new steps.new self.new }
     {
@@ -167,7 +170,8 @@ impl<'c> Configuration<'c> {
         instruction: &LentInstruction<'f>,
         steps: &mut Steps<T>,
     ) -> FlowResult<'f>
-        requires { CanRun O.engine machine.now chunk.now at.old instruction.now self.old }
+        requires can { CanRun O.engine machine.now chunk.now at.old instruction.now self.old }
+        requires left { IsLeft 4 instruction.now }
         ensures { HasRun O.engine machine.now chunk.now at.old steps.old self.old
             result at.new steps.new self.new }
     {
@@ -196,8 +200,9 @@ impl<'c> Configuration<'c> {
         next: usize,
         instruction: &LentInstruction<'f>,
     ) -> FlowResult<'f>
-        requires { CanDo (effect (here_of O.engine machine.now file.now self.old)
+        requires can { CanDo (effect (here_of O.engine machine.now file.now self.old)
             next instruction.now) self.old }
+        requires left { IsLeft 5 instruction.now }
         ensures { Does (effect (here_of O.engine machine.now file.now self.old)
             next instruction.now) self.old result self.new }
     {

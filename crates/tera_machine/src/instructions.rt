@@ -4,6 +4,7 @@ ghost use Rattle.tera_errors.specs.Prelude.{Tells, Lacks, Site, rendering_error}
 ghost use Rattle.tera_operators.specs.Operators.{binary_of};
 ghost use Rattle.tera_machine.specs.Config.{config_of};
 ghost use Rattle.tera_machine.specs.Did.{pushed, holding};
+ghost use Rattle.tera_machine.specs.Dispatch.{IsLeft};
 ghost use Rattle.tera_machine.specs.Effect.{effect, CanDo, IsReady, Does, continue_after, continue_if_written, text_written, outcome_put, top_written, name_written, name_loaded, context_loaded, stored, attribute_loaded, item_loaded, sliced, denied, negated, operated, handed, component_taken, popped_branch, kept_if, above_taken, topmost, on_one};
 ghost use Rattle.tera_machine.specs.Subject.{here_of};
 ghost use Rattle.tera_machine.specs.declared.machine.Flow.TheVariants as flow;
@@ -25,9 +26,8 @@ use tera_values::{Error, Name, NameRef, Span, TeraResult, Value};
 pub(crate) type WriteResult = Result<bool, AllocError>;
 
 impl<'c> Configuration<'c> {
-    /// Runs the instruction, which stands in this file's text before the next position, and tells where to go on. Each form has its
-    /// line here, also those that the dispatch asks for before and that never come. Without them each function of the dispatch would
-    /// have to promise to the next one which forms are left.
+    /// Runs an instruction for which the dispatch did not ask, which stands in this file's text before the next position, and tells
+    /// where to go on.
     #[inline(always)]
     pub(crate) fn run_unpacked<'f, O: Objects>(
         &mut self,
@@ -36,30 +36,20 @@ impl<'c> Configuration<'c> {
         next: usize,
         instruction: &Instruction<'f>,
     ) -> FlowResult<'f>
-        requires { CanDo (effect (here_of O.engine machine.now file.now self.old)
+        requires can { CanDo (effect (here_of O.engine machine.now file.now self.old)
             next instruction.now) self.old }
+        requires left { IsLeft 6 instruction.now }
         ensures { Does (effect (here_of O.engine machine.now file.now self.old)
             next instruction.now) self.old result self.new }
     {
         let alloc = machine.alloc;
         match instruction {
-            Instruction::WriteText(text) => continue_after(self.write_text(text.as_str())),
-            Instruction::WriteTop => self.write_top(machine, file),
-            Instruction::WriteName(name, span) => self.write_name(machine, file, name, *span),
-            Instruction::LoadConst(constant, span) => self.load_constant(constant, *span),
-            Instruction::LoadName(name, span) => continue_after(self.load_name(alloc, name, *span)),
-            Instruction::LoadAttribute {
-                name,
-                optional,
-                span,
-            } => self.load_attribute(alloc, file, name.as_str(), *optional, *span),
+            Instruction::LoadContext(span) => self.load_context(alloc, *span),
             Instruction::LoadItem { optional, span } => {
                 self.load_item(alloc, file, *optional, *span)
             }
             Instruction::Slice { optional, span } => self.slice(alloc, file, *optional, *span),
-            Instruction::Not => self.negate_truth(),
             Instruction::Negate => self.negate(alloc, file),
-            Instruction::Binary(operator, span) => self.operate(alloc, file, *operator, *span),
             Instruction::MakeArray(spreads, span) => {
                 let spreads = spreads.as_slice();
                 let operands = self.pop_operands(spreads.len())?;
@@ -72,41 +62,12 @@ impl<'c> Configuration<'c> {
                 let operand = tera_operators::map(alloc, file, keys, operands, *span)?;
                 self.push_operand(operand)
             }
-            Instruction::Jump(skip) => Ok(Flow::Skip(*skip)),
-            Instruction::PopJumpIfFalse(skip) => self.pop_jump_if_false(*skip),
-            Instruction::JumpIfFalseOrPop(skip) => self.jump_or_pop(false, *skip),
-            Instruction::JumpIfTrueOrPop(skip) => self.jump_or_pop(true, *skip),
-            Instruction::LoadContext(span) => self.load_context(alloc, *span),
-            Instruction::Store { name, is_global } => {
-                continue_after(self.store(alloc, name.as_name(), *is_global))
-            }
-            Instruction::StartLoop {
-                key,
-                name,
-                counts,
-                size,
-            } => self.start_loop(machine, file, next, key, name, *counts, *size),
-            Instruction::NextTurn => self.next_turn(),
-            Instruction::EndLoop(skip) => self.end_loop(*skip),
             Instruction::Keep => self.collect(),
             Instruction::EndComprehension(span) => self.end_comprehension(alloc, *span),
             Instruction::StartCapture => self.start_capture(),
             Instruction::EndCapture(span) => self.end_capture(machine, *span),
             Instruction::LeaveLoop(drops) => self.leave_loop(*drops),
             Instruction::LeaveTurn(drops) => self.leave_turn(*drops),
-            Instruction::TakeBlock { name, span } => {
-                Ok(Flow::Call(Request::Block(name.as_name(), *span)))
-            }
-            Instruction::TakeSuper { arguments, span } => self.request_super(*arguments, *span),
-            Instruction::TakeInclude { name, span } => {
-                Ok(Flow::Call(Request::Include(name.as_name(), *span)))
-            }
-            Instruction::TakeComponent {
-                name,
-                keys,
-                has_body,
-                span,
-            } => self.request_component(machine, file, name.as_name(), keys, *has_body, *span),
             Instruction::ApplyFilter {
                 name,
                 arguments,
@@ -122,6 +83,7 @@ impl<'c> Configuration<'c> {
                 arguments,
                 span,
             } => self.call(machine, file, CallKind::Function, name, arguments, *span),
+            _ => unreachable!(),
         }
     }
 
@@ -153,21 +115,6 @@ impl<'c> Configuration<'c> {
             operand.value(),
         )?;
         Ok(Flow::On)
-    }
-
-    #[inline(always)]
-    pub(crate) fn write_name<'f, O: Objects>(
-        &mut self,
-        machine: &VirtualMachine<'_, O>,
-        file: &str,
-        name: &NameRef<'_>,
-        span: Span,
-    ) -> FlowResult<'f>
-        ensures { Does (name_written (here_of O.engine machine.now file.now self.old) name.now span)
-            self.old result self.new }
-    {
-        let is_put = self.append_name(machine, name)?;
-        continue_if_written(machine.alloc, file, span, is_put)
     }
 
     // Whether the value was put out, which is read where it lies: what is undefined is not. No flow and no fault are handed

@@ -11,7 +11,7 @@ ghost use Rattle.tera_state.specs.Scope.{look};
 ghost use Rattle.tera_machine.specs.Config.{Config};
 ghost use Rattle.tera_machine.specs.Flow.{On};
 ghost use Rattle.tera_machine.specs.Did.{Goes};
-ghost use Rattle.tera_machine.specs.Dispatch.{CanRun, HasRun};
+ghost use Rattle.tera_machine.specs.Dispatch.{CanRun, HasRun, IsLeft};
 ghost use Rattle.tera_machine.specs.Effect.{effect, Effected};
 ghost use Rattle.tera_machine.specs.Together.{done};
 ghost use Rattle.tera_machine.specs.Paths.{Start, Stands, Breaks, start_at, topped};
@@ -221,7 +221,8 @@ impl<'c> Configuration<'c> {
         opening: &LentInstruction<'f>,
         steps: &mut Steps<T>,
     ) -> FlowResult<'f>
-        requires { CanRun O.engine machine.now chunk.now at.old opening.now self.old }
+        requires can { CanRun O.engine machine.now chunk.now at.old opening.now self.old }
+        requires left { IsLeft 5 opening.now }
         ensures { HasRun O.engine machine.now chunk.now at.old steps.old self.old
             result at.new steps.new self.new }
     {

@@ -20,14 +20,14 @@ target g c =
     ap (λ a. a.value) (topmost_is c.args.self.now.operands c.top.result.now c.pop_top.result c.pop_top.new.self c.top.ensures c.pop_top.ensures) ∙ sym c.value.ensures ∙ c.in-Some-items_of.ensures.1
 
 pub returns-in_default : goal.returns-in_default
-returns-in_default g c = ran_alone c.requires refl c.file.ensures c.run_rare.ensures
+returns-in_default g c = ran_alone c.requires.can refl c.file.ensures c.run_rare.ensures
 
 pub overflow_add-at-in_default-items_of : goal.overflow_add-at-in_default-items_of
-overflow_add-at-in_default-items_of g c = omega (arith, slice_get_within c.args.chunk.now.code _ _ c.requires.there, c.requires.few)
+overflow_add-at-in_default-items_of g c = omega (arith, slice_get_within c.args.chunk.now.code _ _ c.requires.can.there, c.requires.can.few)
 
 pub returns-in_default-items_of : goal.returns-in_default-items_of
 returns-in_default-items_of g c =
-    ran_alone c.requires refl c.file-in_default-items_of.ensures c.run_rare-in_default-items_of.ensures
+    ran_alone c.requires.can refl c.file-in_default-items_of.ensures c.run_rare-in_default-items_of.ensures
 
 pub returns : goal.returns
 returns g c =

@@ -1,8 +1,0 @@
-use Rattle.std.proofs.Common.{rules}
-use Rattle.tera_machine.proofs.configuration.Configuration.write_name.Goals as goal
-
-pub returns-in_err-is_put : goal.returns-in_err-is_put
-returns-in_err-is_put g c = search (rules, c.append_name.ensures (record { file = c.args.file.now; span = c.args.span }))
-
-pub returns : goal.returns
-returns g c = search (rules, c.append_name.ensures (record { file = c.args.file.now; span = c.args.span }))

@@ -1,5 +1,5 @@
 -- A rendering beside the registry, from what the reader answered.
-use Rattle.std.proofs.Common.{◌≡◌, Bool, true, false, ◌||◌, IsTrue, Some, None, is_some, Result, Ok, Err, if◌then◌else◌, [], refl, sym, ap, ap₂, ◌∙◌}
+use Rattle.std.proofs.Common.{◌≡◌, Bool, true, false, ◌||◌, IsTrue, Some, None, is_some, Result, Ok, Err, if◌then◌else◌, [], refl, sym, ap, ◌∙◌}
 use Rattle.tera_errors.specs.Site.{Text}
 use Rattle.tera_errors.specs.Fault.{Fault, message}
 use Rattle.tera_errors.specs.Answer.{SeenError, Says, Tells, Gives, GivesOneOf, SaysOneOf}
@@ -14,11 +14,10 @@ use Rattle.tera_meaning.specs.Run.{Signal, Answer, Failed, Gave, begun}
 use Rattle.tera_meaning.specs.Registry.{Registry}
 use Rattle.tera_meaning.specs.Known.{lacks_a_callee}
 use Rattle.tera_meaning.specs.Components.{one_off_name}
-use Rattle.tera_meaning.specs.Accepted.{misses_an_include}
 use Rattle.tera_machine.specs.Config.{Config, config_of, starting}
 use Rattle.tera_machine.specs.Subject.{Subject, meant, meant_from, Means}
 use Rattle.tera_machine.specs.declared.configuration.Configuration.{Configuration}
-use Rattle.tera.specs.Registry.{subject_beside, text_meant, is_there, tree_beside, one_off_meant}
+use Rattle.tera.specs.Registry.{subject_beside, text_meant, knows_in, tree_beside, one_off_meant}
 use Rattle.tera.specs.Rendering.{OneOff, allowed}
 use Rattle.tera_meaning.specs.Rendering.{has_a_block, text_of, one_off_text, render_str, render_str_in}
 use Rattle.tera_meaning.specs.Marks.Origin.{Traces}
@@ -62,26 +61,17 @@ pub told-says : {Y : Type 0} (e : SeenError) (done : Result Y Fault) → Tells e
 told-says None done t h = tt
 told-says (Some fault) done t h = h ∙ ap Err (sym t)
 
-or-true : (b c : Bool) → c ≡ true → (b || c) ≡ true
-or-true true c h = refl
-or-true false c h = h
-
 abbrev unless : Bool → Result Text Fault → Result Text Fault
 unless b meant = if b then Err message else meant
 
 -- nodes that call what is not there are refused
-pub lacking-says : (s : Subject) (e : SeenError) → lacks_a_callee s.world.registry.engine (is_there s.world) (tree_beside s) ≡ true → Tells e message → Says e (one_off_meant s)
+pub lacking-says : (s : Subject) (e : SeenError) → lacks_a_callee (knows_in s.world) (tree_beside s) ≡ true → Tells e message → Says e (one_off_meant s)
 lacking-says s e lacks t =
-    told-says e (one_off_meant s) t (ap (λ b. unless (b || misses_an_include s.world.registry (tree_beside s)) (text_meant s)) lacks)
-
--- and so are those that include it
-pub missing-says : (s : Subject) (e : SeenError) → misses_an_include s.world.registry (tree_beside s) ≡ true → Tells e message → Says e (one_off_meant s)
-missing-says s e missing t =
-    told-says e (one_off_meant s) t (ap (λ b. unless b (text_meant s)) (or-true (lacks_a_callee s.world.registry.engine (is_there s.world) (tree_beside s)) (misses_an_include s.world.registry (tree_beside s)) missing))
+    told-says e (one_off_meant s) t (ap (λ b. unless b (text_meant s)) lacks)
 
 -- any others are rendered
-pub nothing-missing : (s : Subject) → lacks_a_callee s.world.registry.engine (is_there s.world) (tree_beside s) ≡ false → misses_an_include s.world.registry (tree_beside s) ≡ false → text_meant s ≡ one_off_meant s
-nothing-missing s known there = sym (ap₂ (λ b c. unless (b || c) (text_meant s)) known there)
+pub nothing-missing : (s : Subject) → lacks_a_callee (knows_in s.world) (tree_beside s) ≡ false → text_meant s ≡ one_off_meant s
+nothing-missing s known = sym (ap (λ b. unless b (text_meant s)) known)
 
 -- what is meant beside the registry is what its tree means
 pub beside-means : (r : Registry) (tree : Tree) (context : Named Val) (autoescape : Bool) → one_off_meant (subject_beside r tree context autoescape) ≡ one_off_text r tree context autoescape

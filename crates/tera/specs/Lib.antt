@@ -24,7 +24,6 @@ pub use Rattle.tera_syntax_tree.specs.Tree
 pub use Rattle.tera_syntax_tree.specs.View as TreeView
 pub use Rattle.tera_syntax_tree.specs.Blocks
 pub use Rattle.tera_syntax_tree.specs.Definitions
-pub use Rattle.tera_syntax_tree.specs.Includes
 pub use Rattle.tera_syntax_tree.specs.Depth
 pub use Rattle.tera_syntax_tree.specs.Inside
 pub use Rattle.tera_syntax.specs.Grammar

@@ -1,5 +1,5 @@
 -- What an engine holds, as the definitions see it.
-use Rattle.std.specs.Prelude.{Bool, [], map, string_bytes, Option, Some, None, is_some, option_map, Result, Err, ◌||◌, if◌then◌else◌}
+use Rattle.std.specs.Prelude.{Bool, [], map, string_bytes, Option, Some, None, is_some, option_map, Result, Err, if◌then◌else◌}
 use Rattle.tera_errors.specs.Site.{Text, Name}
 use Rattle.tera_errors.specs.Fault.{Fault, message}
 use Rattle.tera_values.specs.Val.{Val}
@@ -13,9 +13,10 @@ use Rattle.tera_meaning.specs.Run.{begun}
 pub use Rattle.tera_meaning.specs.Registry.{Entry, Registry, new_registry, standard_suffixes}
 use Rattle.tera_meaning.specs.Resolve.{entry_at}
 use Rattle.tera_meaning.specs.Rendering.{alone, autoescapes, beside, outermost, text_of, block_of}
-use Rattle.tera_meaning.specs.Known.{lacks_a_callee}
+use Rattle.tera_syntax_tree.specs.Calls.{Callee}
+use Rattle.tera_meaning.specs.Known.{is_known, lacks_a_callee}
 use Rattle.tera_meaning.specs.Components.{Component, component, one_off_name}
-use Rattle.tera_meaning.specs.Accepted.{misses_an_include}
+use Rattle.tera_meaning.specs.Accepted.{is_template}
 use Rattle.tera_meaning.specs.Whole.{World, Place, component_at}
 use Rattle.tera_registry.specs.Templates.{templates_of, prefixes_of}
 use Rattle.tera_machine.specs.Subject.{Subject, template_of, meant}
@@ -101,17 +102,18 @@ text_meant s = text_of (meant s (begun nothing_set))
 abbrev pub is_there : World → Name → Bool
 is_there w name = is_some (component_at w name)
 
+-- whether what is called in the world is there
+abbrev pub knows_in : World → Callee → Bool
+knows_in w = is_known w.registry.engine (is_there w) (is_template w.registry)
+
 -- a body and the components of the text beside the registry
 abbrev pub tree_beside : Subject → Tree
 tree_beside s = record { parent = None; nodes = s.tree; definitions = s.world.beside }
 
--- the text of these, where they call and include nothing that is not there
+-- the text of these, where they call nothing that is not there
 abbrev pub one_off_meant : Subject → Result Text Fault
 one_off_meant s =
-    if lacks_a_callee s.world.registry.engine (is_there s.world) (tree_beside s)
-    || misses_an_include s.world.registry (tree_beside s)
-    then Err message
-    else text_meant s
+    if lacks_a_callee (knows_in s.world) (tree_beside s) then Err message else text_meant s
 
 -- and the text that a block has when it ends last in it
 abbrev pub block_meant : Name → Subject → Result Text Fault

@@ -42,8 +42,8 @@ pub use tera_state::{
 // Code, templates by name, and what runs.
 pub use tera_code::{
     Allowance, BlockCode, Budget, CallKind, Callee, Chunk, Comparison, Compiler, Constant,
-    Instruction, Keys, LentInstruction, LentName, LentText, Names, Spreads, Steps, Tally, Target,
-    Untold, compile_body,
+    Instruction, Keys, LentInstruction, LentName, LentText, Names, Spreads, Steps, Tally, Untold,
+    compile_body,
 };
 pub use tera_machine::{
     BlockRequest, ComponentRequest, Configuration, EndedBlocks, IncludeRequest, LoopPlace,

@@ -61,7 +61,7 @@ impl<O: Objects> TeraOver<O> {
         }
     }
 
-    // The text that was read to this and stands beside the registry, rendered; an error where it calls or includes what is not there.
+    // The text that was read to this and stands beside the registry, rendered; an error where it calls what is not there.
     // The subject is its own.
     fn render_output<'s, T: Tally>(
         &'s self,
@@ -86,9 +86,6 @@ impl<O: Objects> TeraOver<O> {
         let own = components(alloc, ONE_OFF, definitions)?;
         let text = TextTable::new(alloc, &self.templates, chunk, own)?;
         if text.has_missing_callee(&self.objects) {
-            return Err(text.missing_error(ONE_OFF, source.text, &self.objects));
-        }
-        if self.templates.has_missing_include(output) {
             return Err(text.missing_error(ONE_OFF, source.text, &self.objects));
         }
         let alone = VirtualMachine::new_with_autoescape(alloc, autoescape, &self.objects);

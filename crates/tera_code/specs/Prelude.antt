@@ -2,4 +2,4 @@
 pub use Rattle.tera_code.specs.Code.{listing_of, nodes_code}
 pub use Rattle.tera_code.specs.Blocks.{block_listings, block_of}
 pub use Rattle.tera_code.specs.Called.{called_by, callee_of}
-pub use Rattle.tera_code.specs.Targets.{target_in, target_of}
+pub use Rattle.tera_code.specs.Targets.{target_called, target_in}

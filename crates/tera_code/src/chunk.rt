@@ -7,7 +7,6 @@ ghost use Rattle.tera_code.specs.Called.{callee_of, called_by};
 ghost use Rattle.tera_code.specs.declared.instruction.Instruction.TheVariants as instruction;
 ghost use Rattle.tera_code.specs.Packed.{Within, tables_of, unpacked};
 ghost use Rattle.tera_code.specs.Printing.{printing_loop_at};
-ghost use Rattle.tera_code.specs.Targets.{target_in, target_of};
 
 use crate::callee::Callee;
 use crate::comparison::{Comparison, IntegerComparison};
@@ -18,7 +17,6 @@ use crate::packed::{Packed, Tables};
 use crate::settling::settle;
 use crate::steps::Steps;
 use crate::tally::Tally;
-use crate::target::Target;
 use std::marker::Model;
 use tera_syntax_tree::BinaryOperator;
 use tera_values::{Name, Span};
@@ -245,15 +243,6 @@ impl Chunk {
             ≡ option_and_then called_by (slice_get self.now.code position) }
     {
         self.lend(position)?.callee()
-    }
-
-    /// What the instruction at this position takes that stands elsewhere; none where it takes nothing, or where there is none. The
-    /// instruction is not handed out, so that it isn't counted.
-    pub fn target_at(&self, position: usize) -> Option<Target<'_>>
-        ensures { option_map target_of result
-            ≡ option_and_then target_in (slice_get self.now.code position) }
-    {
-        self.lend(position)?.target()
     }
 
     // The instruction at this position, which is not counted.

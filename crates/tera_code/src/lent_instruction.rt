@@ -8,14 +8,12 @@ ghost use Rattle.tera_code.specs.BuiltIn.{built_in_filter, built_in_test};
 ghost use Rattle.tera_code.specs.Called.{callee_of, called_by};
 ghost use Rattle.tera_code.specs.Choices.{falsy_jump_length, truthy_jump_length, is_not};
 ghost use Rattle.tera_code.specs.Printing.{puts};
-ghost use Rattle.tera_code.specs.Targets.{target_in, target_of};
 
 use crate::callee::Callee;
 use crate::constant::Constant;
 use crate::instruction::Instruction;
 use crate::instruction_parts::{Keys, LentName, LentText, Names};
 use crate::packed::{Packed, Tables};
-use crate::target::Target;
 use std::marker::Model;
 use tera_built_ins::{BuiltInFilter, BuiltInTest};
 use tera_syntax_tree::BinaryOperator;
@@ -422,22 +420,10 @@ impl<'a> LentInstruction<'a> {
                 self.tables.callee_name(call),
             )),
             Packed::TakeComponent { target, .. } => {
-                Some(Callee::Component(self.tables.target(target).as_str()))
+                Some(Callee::Component(self.tables.target(target)))
             }
-            _ => None,
-        }
-    }
-
-    // What it takes that stands elsewhere.
-    pub(crate) fn target(&self) -> Option<Target<'a>>
-        ensures { option_map target_of result ≡ target_in self.now }
-    {
-        match *self.packed {
             Packed::TakeInclude { target, .. } => {
-                Some(Target::Template(self.tables.target(target)))
-            }
-            Packed::TakeComponent { target, .. } => {
-                Some(Target::Component(self.tables.target(target)))
+                Some(Callee::Template(self.tables.target(target)))
             }
             _ => None,
         }

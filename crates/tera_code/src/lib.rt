@@ -29,7 +29,6 @@ mod size_guess;
 mod spans;
 pub mod steps;
 pub mod tally;
-pub mod target;
 mod unpack;
 
 pub use blocks::BlockCode;
@@ -45,4 +44,3 @@ pub use lent_instruction::LentInstruction;
 pub use nodes::compile_body;
 pub use steps::Steps;
 pub use tally::{Allowance, Budget, Tally, Untold};
-pub use target::Target;

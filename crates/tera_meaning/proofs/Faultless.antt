@@ -1,5 +1,5 @@
 -- Registries without a fault.
-use Rattle.std.proofs.Common.{◌≡◌, ◌≢◌, ℕ, zero, suc, ◌<◌, Bool, true, false, not, ◌||◌, ◌&&◌, if◌then◌else◌, List, [], ◌∷◌, ◌++◌, length, get_or, Option, Some, None, is_some, is_none, Result, Ok, Err, refl, ap, ◌∙◌, subst, arith}
+use Rattle.std.proofs.Common.{◌≡◌, ◌≢◌, ℕ, zero, suc, ◌<◌, Bool, true, false, not, ◌||◌, ◌&&◌, if◌then◌else◌, List, [], ◌∷◌, ◌++◌, length, get_or, Option, Some, None, is_some, Result, Ok, Err, refl, ap, ◌∙◌, subst, arith}
 use Rattle.std.specs.Option.{option_or, IsSome}
 use Rattle.std.specs.List.{list_any, filter}
 use mathlib.Core.Path.{fun_ext}
@@ -10,16 +10,15 @@ use Rattle.tera_values.specs.Named.{Named, put_all}
 use Rattle.tera_syntax_tree.specs.Tree.{Nodes}
 use Rattle.tera_syntax_tree.specs.Delimiters.{Delims}
 use Rattle.tera_syntax_tree.specs.Blocks.{top_blocks}
-use Rattle.tera_syntax_tree.specs.Calls.{Callee, AFilter, ATest, AFunction, AComponent, calls}
-use Rattle.tera_syntax_tree.specs.Includes.{tree_includes}
+use Rattle.tera_syntax_tree.specs.Calls.{Callee, AFilter, ATest, AFunction, AComponent, ATemplate, calls}
 use Rattle.tera_state.specs.Engine.{Engine}
 use Rattle.tera_state.specs.Laws.{OnlyAdds}
 use Rattle.tera_meaning.specs.Registry.{Entry, Registry, Template}
-use Rattle.tera_meaning.specs.Resolve.{resolve, parents}
+use Rattle.tera_meaning.specs.Resolve.{parents}
 use Rattle.tera_meaning.specs.Lineage.{Definer, ancestors, definers_in}
 use Rattle.tera_meaning.specs.Components.{better, best_from, defines, definer_of, has_a_tie}
-use Rattle.tera_meaning.specs.Known.{is_known, has_unknown, bodies, lacks_a_callee}
-use Rattle.tera_meaning.specs.Accepted.{fault_of_parents, includes_of, can_walk, leads_into_a_circle, fault_if, template_fault, first_fault, is_none_left, is_lost, loses_a_block, misses_an_include, is_component, lacks_something, missing, fault}
+use Rattle.tera_meaning.specs.Known.{has_unknown, bodies, lacks_a_callee}
+use Rattle.tera_meaning.specs.Accepted.{fault_of_parents, includes_of, can_walk, leads_into_a_circle, fault_if, template_fault, first_fault, is_none_left, is_lost, loses_a_block, knows, lacks_something, missing, fault}
 use Rattle.tera_meaning.specs.Adding.{unless_faulty, added}
 use Rattle.tera_meaning.specs.Laws.{AcceptanceStays, EmptyBatchIsAccepted, NamesWhatIsThere, NothingIsMissing}
 
@@ -138,26 +137,24 @@ module _ (r : Registry) (suffixes : List Text) (delimiters : Delims) (global : N
   definer-same name = best-same None (filter (defines name) r.templates)
 
   module _ (adds : OnlyAdds r.engine engine) where
-    known-more : (c : Callee) → is_known r.engine (is_component r) c ≡ true → is_known engine (is_component other) c ≡ true
+    known-more : (c : Callee) → knows r c ≡ true → knows other c ≡ true
     known-more (AFilter name) h = adds.filters name h
     known-more (ATest name) h = adds.tests name h
     known-more (AFunction name) h = adds.functions name h
     known-more (AComponent name) h = ap is_some (definer-same name) ∙ h
+    known-more (ATemplate name) h = h
 
-    unknown-fewer : (nodes : Nodes) → has_unknown r.engine (is_component r) nodes ≡ false → has_unknown engine (is_component other) nodes ≡ false
+    unknown-fewer : (nodes : Nodes) → has_unknown (knows r) nodes ≡ false → has_unknown (knows other) nodes ≡ false
     unknown-fewer nodes h =
-        list_any-fewer (λ c. not (is_known r.engine (is_component r) c)) (λ c. not (is_known engine (is_component other) c)) (calls nodes)
-        (λ c unknown. not-true (is_known engine (is_component other) c) (known-more c (not-false (is_known r.engine (is_component r) c) unknown))) h
+        list_any-fewer (λ c. not (knows r c)) (λ c. not (knows other c)) (calls nodes)
+        (λ c unknown. not-true (knows other c) (known-more c (not-false (knows r c) unknown))) h
 
     lacks-fewer : (t : Entry) → lacks_something r t ≡ false → lacks_something other t ≡ false
     lacks-fewer t h =
         let tree = t.1.tree in
-        let callee = lacks_a_callee r.engine (is_component r) tree in
-        let first = or-false (loses_a_block r t) (callee || misses_an_include r tree) h in
-        let rest = or-false callee (misses_an_include r tree) first.1 in
-        both-false (loses_a_block other t) (lacks_a_callee engine (is_component other) tree || misses_an_include other tree) first.0
-        (both-false (lacks_a_callee engine (is_component other) tree) (misses_an_include other tree)
-        (list_any-fewer (has_unknown r.engine (is_component r)) (has_unknown engine (is_component other)) (bodies tree) unknown-fewer rest.0) rest.1)
+        let parts = or-false (loses_a_block r t) (lacks_a_callee (knows r) tree) h in
+        both-false (loses_a_block other t) (lacks_a_callee (knows other) tree) parts.0
+        (list_any-fewer (has_unknown (knows r)) (has_unknown (knows other)) (bodies tree) unknown-fewer parts.1)
 
     pub stays : fault r ≡ None → fault other ≡ None
     stays h =
@@ -200,10 +197,6 @@ parents-there : (p : Result (List Entry) Fault) → fault_of_parents p ≡ None 
 parents-there (Ok ts) h = (ts, refl)
 parents-there (Err f) h = absurd (cc)
 
-is-there : {A : Type 0} (o : Option A) → is_none o ≡ false → IsSome o
-is-there None h = absurd (cc)
-is-there (Some a) h = refl
-
 under-some : {A : Type 0} (o : Option A) (b : Bool) → IsSome o → (is_some o && b) ≡ false → b ≡ false
 under-some None b some h = absurd (cc)
 under-some (Some a) b some h = h
@@ -215,18 +208,15 @@ some-left (d ∷ ds) h e = (cc)
 names-there : (r : Registry) (t : Entry) → fault_of_parents (parents r t) ≡ None → lacks_something r t ≡ false → NamesWhatIsThere r t
 names-there r t there h =
     let tree = t.1.tree in
-    let callee = lacks_a_callee r.engine (is_component r) tree in
-    let first = or-false (loses_a_block r t) (callee || misses_an_include r tree) h in
-    let rest = or-false callee (misses_an_include r tree) first.1 in
+    let parts = or-false (loses_a_block r t) (lacks_a_callee (knows r) tree) h in
     record {
       parents = parents-there (parents r t) there;
       calls = λ k body lt j c lt'.
-          not-false (is_known r.engine (is_component r) (get_or (calls (get_or (bodies tree) k body)) j c))
-          (list_any-none (λ c. not (is_known r.engine (is_component r) c)) (calls (get_or (bodies tree) k body)) (list_any-none (has_unknown r.engine (is_component r)) (bodies tree) rest.0 k body lt) j c lt');
-      includes = λ k name lt. is-there (resolve r (get_or (tree_includes tree) k name)) (list_any-none (λ n. is_none (resolve r n)) (tree_includes tree) rest.1 k name lt);
+          not-false (knows r (get_or (calls (get_or (bodies tree) k body)) j c))
+          (list_any-none (λ c. not (knows r c)) (calls (get_or (bodies tree) k body)) (list_any-none (has_unknown (knows r)) (bodies tree) parts.1 k body lt) j c lt');
       blocks = λ extends k block lt.
           some-left (definers_in (get_or (top_blocks tree.nodes) k block) (ancestors r t))
-          (list_any-none (is_lost r t) (top_blocks tree.nodes) (under-some t.1.tree.parent (list_any (is_lost r t) (top_blocks tree.nodes)) extends first.0) k block lt);
+          (list_any-none (is_lost r t) (top_blocks tree.nodes) (under-some t.1.tree.parent (list_any (is_lost r t) (top_blocks tree.nodes)) extends parts.0) k block lt);
     }
 
 pub nothing_is_missing : NothingIsMissing

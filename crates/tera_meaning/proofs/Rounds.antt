@@ -12,9 +12,9 @@ use Rattle.std.proofs.lemmas.Map.Steps.{length-le_from_keys}
 use Rattle.tera_errors.specs.Site.{Name}
 use Rattle.tera_errors.specs.Fault.{Fault, circular_extend, missing_parent}
 use Rattle.tera_values.specs.Named.{Named}
-use Rattle.tera_syntax_tree.specs.Includes.{tree_includes}
 use Rattle.tera_meaning.specs.Registry.{Template, Entry, Registry}
 use Rattle.tera_meaning.specs.Resolve.{entry_at, first_there, resolve, onto, or_missing, up, parents, last_of}
+use Rattle.tera_meaning.specs.Known.{included_names}
 use Rattle.tera_meaning.specs.Accepted.{fault, fault_of_parents, includes_of, can_walk, leads_into_a_circle}
 use Rattle.tera_meaning.specs.Circles.{Extends, Includes, IsWalk, IsCircle, LeadsIntoACircle, CountsTellCircles, NoCircles}
 use Rattle.tera_meaning.proofs.Faultless.{each-parts}
@@ -188,7 +188,7 @@ module _ (Leads : Entry → Entry → Type 0) where
 
 include-there : (r : Registry) (t u : Entry) → Includes r t u → IsThere r.templates u
 include-there r t u c =
-    let found = contains-found (resolve r) (tree_includes t.1.tree) u c in resolved-there r found.0 u found.1
+    let found = contains-found (resolve r) (included_names t.1.tree) u c in resolved-there r found.0 u found.1
 
 walk-of : (r : Registry) (n : ℕ) (t : Entry) → can_walk r n t ≡ true → (us : List Entry) × (length us ≡ n) × IsWalk (Includes r) t us
 unfolding can_walk

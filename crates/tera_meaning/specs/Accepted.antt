@@ -1,15 +1,15 @@
 -- Whether the templates of a registry go together.
-use Rattle.std.specs.Prelude.{ℕ, zero, suc, Bool, true, false, ◌&&◌, ◌||◌, List, [], ◌∷◌, ◌++◌, length, Option, Some, None, is_some, is_none, Result, Ok, Err, if◌then◌else◌}
+use Rattle.std.specs.Prelude.{ℕ, zero, suc, Bool, true, false, ◌&&◌, ◌||◌, List, [], ◌∷◌, ◌++◌, length, Option, Some, None, is_some, Result, Ok, Err, if◌then◌else◌}
 use Rattle.std.specs.List.{list_any, filter_map}
 use Rattle.std.specs.Option.{option_or}
 use Rattle.tera_errors.specs.Site.{Name}
 use Rattle.tera_errors.specs.Fault.{Fault, message, circular_include}
 use Rattle.tera_syntax_tree.specs.Tree.{Tree}
 use Rattle.tera_syntax_tree.specs.Blocks.{top_blocks}
-use Rattle.tera_syntax_tree.specs.Includes.{tree_includes}
+use Rattle.tera_syntax_tree.specs.Calls.{Callee}
 use Rattle.tera_meaning.specs.Registry.{Entry, Registry}
 use Rattle.tera_meaning.specs.Resolve.{resolve, parents}
-use Rattle.tera_meaning.specs.Known.{lacks_a_callee}
+use Rattle.tera_meaning.specs.Known.{is_known, lacks_a_callee, included_names}
 use Rattle.tera_meaning.specs.Components.{definer_of, has_a_tie}
 use Rattle.tera_meaning.specs.Lineage.{Definer, ancestors, definers_in}
 
@@ -19,7 +19,7 @@ fault_of_parents (Err fault) = Some fault
 
 -- the templates that a template includes, as far as they are there
 abbrev pub includes_of : Registry → Entry → List Entry
-includes_of r t = filter_map (resolve r) (tree_includes t.1.tree)
+includes_of r t = filter_map (resolve r) (included_names t.1.tree)
 
 -- whether so many includes lead from a template, each to the next
 unfoldable pub can_walk : Registry → ℕ → Entry → Bool
@@ -60,18 +60,19 @@ is_lost r t block = is_none_left (definers_in block (ancestors r t))
 abbrev pub loses_a_block : Registry → Entry → Bool
 loses_a_block r t = is_some t.1.tree.parent && list_any (is_lost r t) (top_blocks t.1.tree.nodes)
 
--- whether a tree includes what is not there
-abbrev pub misses_an_include : Registry → Tree → Bool
-misses_an_include r tree = list_any (λ name. is_none (resolve r name)) (tree_includes tree)
-
 abbrev pub is_component : Registry → Name → Bool
 is_component r name = is_some (definer_of r name)
 
+abbrev pub is_template : Registry → Name → Bool
+is_template r name = is_some (resolve r name)
+
+-- whether what a template of a registry calls is there
+abbrev pub knows : Registry → Callee → Bool
+knows r = is_known r.engine (is_component r) (is_template r)
+
 -- whether a template names what is not there
 abbrev pub lacks_something : Registry → Entry → Bool
-lacks_something r t =
-    loses_a_block r t
-    || (lacks_a_callee r.engine (is_component r) t.1.tree || misses_an_include r t.1.tree)
+lacks_something r t = loses_a_block r t || lacks_a_callee (knows r) t.1.tree
 
 -- what is not there of what templates name
 unfoldable pub missing : Registry → Option Fault

@@ -7,14 +7,13 @@ use Rattle.tera_values.specs.Val.{Val}
 use Rattle.tera_values.specs.Named.{Named}
 use Rattle.tera_syntax_tree.specs.Blocks.{top_blocks}
 use Rattle.tera_syntax_tree.specs.Calls.{calls}
-use Rattle.tera_syntax_tree.specs.Includes.{tree_includes}
 use Rattle.tera_state.specs.Engine.{Engine}
 use Rattle.tera_state.specs.Laws.{OnlyAdds}
 use Rattle.tera_meaning.specs.Registry.{Entry, Registry, Template}
-use Rattle.tera_meaning.specs.Resolve.{resolve, parents}
+use Rattle.tera_meaning.specs.Resolve.{parents}
 use Rattle.tera_meaning.specs.Lineage.{ancestors, definers_in}
-use Rattle.tera_meaning.specs.Known.{is_known, bodies}
-use Rattle.tera_meaning.specs.Accepted.{fault, is_component}
+use Rattle.tera_meaning.specs.Known.{bodies}
+use Rattle.tera_meaning.specs.Accepted.{fault, knows}
 use Rattle.tera_meaning.specs.Adding.{added}
 
 abbrev pub IsAccepted : Registry → Type 0
@@ -37,14 +36,12 @@ pub record AcceptanceStays : Type 0 where
 abbrev pub EmptyBatchIsAccepted : Type 0
 EmptyBatchIsAccepted = (r : Registry) → IsAccepted r → added r (Ok []) ≡ Ok r
 
--- What a template names is there: its parents, the filters, tests, functions and components that
--- its bodies call, and the templates that it includes; and where it has a parent, some parent has
--- each of its blocks that stands inside no other.
+-- What a template names is there: its parents, and the filters, tests, functions, components and
+-- templates that its bodies call; and where it has a parent, some parent has each of its blocks
+-- that stands inside no other.
 pub record NamesWhatIsThere (r : Registry) (t : Entry) : Type 0 where
   pub parents : (ts : List Entry) × (parents r t ≡ Ok ts)
-  pub calls : All (λ body. All (λ callee. IsTrue (is_known r.engine (is_component r) callee))
-      (calls body)) (bodies t.1.tree)
-  pub includes : All (λ name. IsSome (resolve r name)) (tree_includes t.1.tree)
+  pub calls : All (λ body. All (λ callee. IsTrue (knows r callee)) (calls body)) (bodies t.1.tree)
   pub blocks : IsSome t.1.tree.parent
       → All (λ block. definers_in block (ancestors r t) ≢ []) (top_blocks t.1.tree.nodes)
 

@@ -8,14 +8,15 @@ use Rattle.tera_values.specs.Val.{Val, ValOf, text}
 use Rattle.tera_values.specs.Named.{Named}
 use Rattle.tera_syntax_tree.specs.Tree.{Tree, Nodes}
 use Rattle.tera_syntax_tree.specs.Blocks.{top_blocks}
+use Rattle.tera_syntax_tree.specs.Calls.{Callee}
 use Rattle.tera_state.specs.Scope.{AroundOf, Around, outside, in_component, look_implicit, nothing_set}
 use Rattle.tera_meaning.specs.Run.{Signal, Answer, AnswerOf, Failed, Gave}
 use Rattle.tera_meaning.specs.Registry.{Entry, Registry}
 use Rattle.tera_meaning.specs.Resolve.{resolve, root}
 use Rattle.tera_components.specs.Context.{component_context_in}
 use Rattle.tera_meaning.specs.Components.{Component, component, one_off_name}
-use Rattle.tera_meaning.specs.Known.{lacks_a_callee}
-use Rattle.tera_meaning.specs.Accepted.{misses_an_include}
+use Rattle.tera_meaning.specs.Known.{is_known, lacks_a_callee}
+use Rattle.tera_meaning.specs.Accepted.{is_template}
 use Rattle.tera_meaning.specs.Lineage.{Definer, definers}
 use Rattle.tera_meaning.specs.Whole.{World, Place, PlaceOf, component_at, place_of_component, meaning_in}
 
@@ -56,6 +57,10 @@ has_a_block nodes = has_some (top_blocks nodes)
 abbrev pub is_component_beside : Registry → Tree → Name → Bool
 is_component_beside r tree name = is_some (component_at (beside r tree) name)
 
+-- whether what a text beside the registry calls is there
+abbrev pub knows_beside : Registry → Tree → Callee → Bool
+knows_beside r tree = is_known r.engine (is_component_beside r tree) (is_template r)
+
 module _ {C : Type 0} (alphabet : Alphabet C) where
   -- around the variables of a rendering: the caller's context, and the global one
   abbrev pub outermost_in : Registry → Named Val → AroundOf C
@@ -78,15 +83,14 @@ module _ {C : Type 0} (alphabet : Alphabet C) where
       meaning_in alphabet (beside r tree)
       (one_off_place_in r context autoescape) nothing_set tree.nodes
 
-  -- the text of a tree that calls and includes nothing that is not there
+  -- the text of a tree that calls nothing that is not there
   abbrev pub one_off_text_in : Registry → Tree → Named Val → Bool → Result (List C) Fault
   one_off_text_in r tree context autoescape =
-      if lacks_a_callee r.engine (is_component_beside r tree) tree || misses_an_include r tree
-      then Err message
+      if lacks_a_callee (knows_beside r tree) tree then Err message
       else text_of (one_off_meaning_in r tree context autoescape)
 
   -- the reader's fault; a text beside the registry may extend no template, have no block, and call
-  -- and include nothing that is not there; else the text of what was read
+  -- nothing that is not there; else the text of what was read
   abbrev pub render_str_in : Registry → Result Tree Fault → Named Val → Bool → Result (List C) Fault
   render_str_in r (Err fault) context autoescape = Err fault
   render_str_in r (Ok tree) context autoescape =

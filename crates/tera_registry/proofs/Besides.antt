@@ -11,9 +11,10 @@ use Rattle.tera_code.specs.Listing.{Listing}
 use Rattle.tera_code.specs.Code.{nodes_code}
 use Rattle.tera_state.specs.Engine.{Engine}
 use Rattle.tera_meaning.specs.Registry.{Registry}
-use Rattle.tera_meaning.specs.Known.{lacks_a_callee}
+use Rattle.tera_meaning.specs.Known.{is_known, lacks_a_callee}
+use Rattle.tera_meaning.specs.Accepted.{is_template}
 use Rattle.tera_meaning.specs.Components.{Component, component_named, component, one_off_name}
-use Rattle.tera_meaning.specs.Rendering.{is_component_beside}
+use Rattle.tera_meaning.specs.Rendering.{is_component_beside, knows_beside}
 use Rattle.tera_registry.specs.declared.components.Component.{Component as Kept}
 use Rattle.tera_registry.specs.declared.component_table.ComponentAt.{ComponentAt}
 use Rattle.tera_registry.specs.Known.{is_there, code_lacks}
@@ -49,8 +50,10 @@ there-beside r tree file choices own known kept n =
     let of_own = own-there n own ∙ ap (list_any (λ m. bytes_eq n m)) (kept-names-are file tree.definitions own kept) ∙ named-there one_off_name n tree.definitions in
     ap₂ (λ x y. x || y) of_all of_own ∙ sym (either-there (component r n) (component_named one_off_name n tree.definitions))
 
-pub beside-lacks : (r : Registry) (engine : Engine) (tree : Tree) (file : Name) (choices : BTreeMap (String Global) ComponentAt Global) (own : List Kept) (body : Listing) → AreChosen r choices → r.engine ≡ engine → body.code ≡ nodes_code tree.nodes 0 → map kept_of own ≡ kept_all file tree.definitions → in_tree.blocks tree.nodes ≡ []
-    → (code_lacks engine (is_there choices own) body.code || list_any (λ c. code_lacks engine (is_there choices own) c.code.value.chunk.code) own) ≡ lacks_a_callee r.engine (is_component_beside r tree) tree
-beside-lacks r engine tree file choices own body known of code kept none =
+pub beside-lacks : (r : Registry) (engine : Engine) (template : Name → Bool) (tree : Tree) (file : Name) (choices : BTreeMap (String Global) ComponentAt Global) (own : List Kept) (body : Listing) → AreChosen r choices → r.engine ≡ engine → template ≡ is_template r → body.code ≡ nodes_code tree.nodes 0 → map kept_of own ≡ kept_all file tree.definitions → in_tree.blocks tree.nodes ≡ []
+    → (code_lacks (is_known engine (is_there choices own) template) body.code || list_any (λ c. code_lacks (is_known engine (is_there choices own) template) c.code.value.chunk.code) own) ≡ lacks_a_callee (knows_beside r tree) tree
+beside-lacks r engine template tree file choices own body known of resolves code kept none =
     let there : is_there choices own ≡ is_component_beside r tree = fun_ext (there-beside r tree file choices own known kept) in
-    codes_lack_as_tree engine (is_there choices own) file body own tree code kept none ∙ ap₂ (λ e f. lacks_a_callee e f tree) (sym of) there
+    codes_lack_as_tree (is_known engine (is_there choices own) template) file body own tree code kept none
+    ∙ ap₂ (λ e f. lacks_a_callee (is_known e f template) tree) (sym of) there
+    ∙ ap (λ f. lacks_a_callee (is_known r.engine (is_component_beside r tree) f) tree) resolves

@@ -1,6 +1,7 @@
 -- The component of a name, found by position.
 use Rattle.std.proofs.Common.{◌≡◌, ℕ, ◌<◌, is_some, List, [], length, map, get_or, Option, Some, None, option_map, option_and_then, Global, String, refl, sym, ap, ap₂, ◌∙◌, arith, slice_get}
 use Rattle.std.specs.declared.collections.BTreeMap.{BTreeMap}
+use Rattle.std.specs.declared.rc.Rc.{Rc}
 use Rattle.std.specs.List.{list_any}
 use mathlib.Core.Path.{fun_ext}
 use Rattle.std.proofs.lemmas.List.{length-map}
@@ -9,13 +10,15 @@ use Rattle.tera_errors.specs.Site.{Name}
 use Rattle.tera_syntax_tree.specs.Tree.{Signature, Nodes, Definitions, Tree}
 use Rattle.tera_state.specs.Engine.{Engine}
 use Rattle.tera_meaning.specs.Registry.{Entry, Registry}
-use Rattle.tera_meaning.specs.Known.{lacks_a_callee}
-use Rattle.tera_meaning.specs.Accepted.{is_component}
+use Rattle.tera_meaning.specs.Known.{is_known, lacks_a_callee}
+use Rattle.tera_meaning.specs.Accepted.{is_component, is_template, knows}
 use Rattle.tera_meaning.specs.Components.{component_in, component, definer_of}
 use Rattle.tera_registry.specs.declared.components.Component.{Component as Kept}
 use Rattle.tera_registry.specs.declared.component_table.ComponentAt.{ComponentAt}
 use Rattle.tera_registry.specs.declared.outside_calls.OutsideCall.{OutsideCall}
+use Rattle.tera_registry.specs.declared.template.Template.{Template as Stored}
 use Rattle.tera_registry.specs.Components.{kept_of, kept_as, kept_all}
+use Rattle.tera_registry.specs.Kept.{seen, seen_by}
 use Rattle.tera_registry.specs.Known.{is_there}
 use Rattle.tera_registry.specs.OutsideCalls.{needs_of, is_missing_call}
 use Rattle.tera_registry.specs.Choices.{chosen, chosen_of, AreChosen}
@@ -63,7 +66,11 @@ kept-at file definitions cs k d c e at is =
     cc
 
 -- what a template calls is there or not
-pub misses-callee : (r : Registry) (engine : Engine) (tree : Tree) (choices : BTreeMap (String Global) ComponentAt Global) (needs : List OutsideCall) → AreChosen r choices → r.engine ≡ engine → needs ≡ needs_of tree → list_any (is_missing_call engine (is_there choices [])) needs ≡ lacks_a_callee r.engine (is_component r) tree
-misses-callee r engine tree choices needs known of those =
+pub misses-callee : (r : Registry) (engine : Engine) (ts : List (Rc Stored Global)) (ps : List (String Global)) (tree : Tree) (choices : BTreeMap (String Global) ComponentAt Global) (needs : List OutsideCall) → AreChosen r choices → r ≡ seen_by engine ts ps → needs ≡ needs_of tree → list_any (is_missing_call (is_known engine (is_there choices []) (is_template (seen ts ps)))) needs ≡ lacks_a_callee (knows r) tree
+misses-callee r engine ts ps tree choices needs known of those =
+    let template = is_template (seen ts ps) in
     let there : is_there choices [] ≡ is_component r = fun_ext (λ n. sym (or-false (is_some (chosen choices n))) ∙ ap is_some (known n) ∙ component-there r n) in
-    ap (list_any (is_missing_call engine (is_there choices []))) those ∙ sym (lacks-needs engine (is_there choices []) tree) ∙ ap₂ (λ e f. lacks_a_callee e f tree) (sym of) there
+    ap (list_any (is_missing_call (is_known engine (is_there choices []) template))) those
+    ∙ sym (lacks-needs engine (is_there choices []) template tree)
+    ∙ ap (λ f. lacks_a_callee (is_known engine f template) tree) there
+    ∙ ap (λ (q : Registry). lacks_a_callee (is_known q.engine (is_component r) (is_template q)) tree) (sym of)

@@ -1,7 +1,7 @@
--- Edges, one more at a time, and how many of the names that a template includes resolve.
-use Rattle.std.proofs.Common.{◌≡◌, ℕ, suc, ◌+◌, ◌<◌, ◌≤◌, Bool, true, false, ◌||◌, List, [], ◌∷◌, ◌++◌, length, drop, Option, Some, None, Vec, Global, inl, inr, refl, sym, ap, ◌∙◌, append_assoc, append-nil, arith, slice_get, is_none, nat_lt}
-use Rattle.std.specs.List.{list_any, filter_map, cons_option}
-use Rattle.std.proofs.lemmas.Bool.{cases_lt, cases_order, lt-ltb, le-ltb}
+-- Edges, one more at a time.
+use Rattle.std.proofs.Common.{◌≡◌, ℕ, suc, ◌+◌, ◌<◌, ◌≤◌, Bool, true, false, ◌||◌, List, [], ◌∷◌, ◌++◌, length, drop, Option, Some, None, Vec, Global, inl, inr, refl, sym, ap, ◌∙◌, append_assoc, append-nil, arith, slice_get, is_some}
+use Rattle.std.specs.List.{filter_map, cons_option}
+use Rattle.std.proofs.lemmas.Bool.{cases_lt, cases_order}
 use Rattle.std.proofs.lemmas.List.{drop_all}
 use Rattle.tera_meaning.specs.Registry.{Registry, Entry}
 use Rattle.tera_meaning.specs.Accepted.{includes_of}
@@ -86,41 +86,7 @@ more-edges r edges row many t a at is all = record {
       ];
 }
 
--- Of names so many resolve as there are, or one does not.
-
-length-filter_map : {X Y : Type 0} (f : X → Option Y) (xs : List X) → length (filter_map f xs) ≤ length xs
-length-filter_map f [] = omega arith
-length-filter_map {X} {Y} f (x ∷ xs) = by_first (f x) (length-filter_map f xs)
-  where
-    by_first : (o : Option Y) → length (filter_map f xs) ≤ length xs → length (cons_option o (filter_map f xs)) ≤ suc (length xs)
-    by_first None le = omega arith
-    by_first (Some y) le = omega arith
-
-fewer-by : {X Y : Type 0} (p : X → Bool) (o : Option Y) (ys : List Y) (xs : List X) → length (cons_option o ys) < suc (length xs) → (length ys < length xs → list_any p xs ≡ true) → (is_none o || list_any p xs) ≡ true
-fewer-by p None ys xs lt rest = refl
-fewer-by p (Some y) ys xs lt rest = rest (omega arith)
-
-pub fewer-miss : {X Y : Type 0} (f : X → Option Y) (xs : List X) → length (filter_map f xs) < length xs → list_any (λ x. is_none (f x)) xs ≡ true
-fewer-miss f [] lt = absurd (omega arith)
-fewer-miss f (x ∷ xs) lt = fewer-by (λ y. is_none (f y)) (f x) (filter_map f xs) xs lt (fewer-miss f xs)
-
-as-many-by : {X Y : Type 0} (p : X → Bool) (o : Option Y) (ys : List Y) (xs : List X) → suc (length xs) ≤ length (cons_option o ys) → length ys ≤ length xs → (length xs ≤ length ys → list_any p xs ≡ false) → (is_none o || list_any p xs) ≡ false
-as-many-by p None ys xs le short rest = absurd (omega arith)
-as-many-by p (Some y) ys xs le short rest = rest (omega arith)
-
-pub as-many-miss-none : {X Y : Type 0} (f : X → Option Y) (xs : List X) → length xs ≤ length (filter_map f xs) → list_any (λ x. is_none (f x)) xs ≡ false
-as-many-miss-none f [] le = refl
-as-many-miss-none f (x ∷ xs) le =
-    as-many-by (λ y. is_none (f y)) (f x) (filter_map f xs) xs le (length-filter_map f xs) (as-many-miss-none f xs)
-
-pub fewer-is : {X Y : Type 0} (f : X → Option Y) (xs : List X) (n : ℕ) → n ≡ length (filter_map f xs) → nat_lt n (length xs) ≡ list_any (λ x. is_none (f x)) xs
-fewer-is f xs n is =
-    elim (cases_lt n (length xs)) [
-      | inl fewer ↦ lt-ltb n (length xs) fewer ∙ sym (fewer-miss f xs (omega (arith, is, fewer)))
-      | inr all ↦ le-ltb n (length xs) all ∙ sym (as-many-miss-none f xs (omega (arith, is, all)))
-    ]
-
--- what a look-up answers is none where nothing resolves
-pub is_none-position : {X : Type 0} (xs : List X) (o : Option ℕ) (x : Option X) → IsPosition xs o x → is_none o ≡ is_none x
-is_none-position xs None x is = ap is_none (sym is)
-is_none-position xs (Some i) x is = (let e = element xs i is.1 in sym (ap is_none (is.0 ∙ e.1)))
+-- what a look-up answers is there where what it looks for is
+pub is_some-position : {X : Type 0} (xs : List X) (o : Option ℕ) (x : Option X) → IsPosition xs o x → is_some o ≡ is_some x
+is_some-position xs None x is = ap is_some (sym is)
+is_some-position xs (Some i) x is = (let e = element xs i is.1 in sym (ap is_some (is.0 ∙ e.1)))

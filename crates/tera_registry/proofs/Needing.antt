@@ -2,11 +2,12 @@
 use Rattle.std.proofs.Common.{◌≡◌, ℕ, ◌+◌, ◌<◌, ◌≤◌, Bool, true, false, not, ◌||◌, is_some, if◌then◌else◌, List, [], ◌∷◌, ◌++◌, length, drop, map, option_and_then, Option, Some, None, refl, sym, ap, ap₂, ◌∙◌, append_assoc, slice_get}
 use Rattle.std.specs.List.{list_any, filter_map, flat_map, cons_option}
 use Rattle.std.proofs.lemmas.List.{drop_all, append-nil}
+use Rattle.std.proofs.lemmas.List.Elements.{filter_map-append}
 use Rattle.std.proofs.lemmas.List.Folds.{list_any-append, flat_map-map}
 use Rattle.tera_errors.specs.Site.{Name}
 use Rattle.tera_syntax_tree.specs.Tree.{Signature, Nodes, Definitions, Tree}
 use Rattle.tera_syntax_tree.specs.Blocks as in_tree
-use Rattle.tera_syntax_tree.specs.Calls.{Callee, AFilter, ATest, AFunction, AComponent, calls}
+use Rattle.tera_syntax_tree.specs.Calls.{Callee, AFilter, ATest, AFunction, AComponent, ATemplate, calls, template_called}
 use Rattle.tera_values.specs.Named.{at_name}
 use Rattle.tera_built_ins.specs.Filters.{filter_named}
 use Rattle.tera_built_ins.specs.TestTable.{test_named}
@@ -19,12 +20,14 @@ use Rattle.tera_code.specs.Code.{Code, nodes_code, listing_of}
 use Rattle.tera_code.specs.Called.{called_by, callees}
 use Rattle.tera_code.proofs.Callees.{code_calls_the_same}
 use Rattle.tera_state.specs.Engine.{Engine, own_or_built_in}
-use Rattle.tera_meaning.specs.Known.{is_known, has_unknown, lacks_a_callee, bodies}
+use Rattle.tera_meaning.specs.Known.{is_known, has_unknown, lacks_a_callee, bodies, included_names}
+use Rattle.tera_meaning.specs.Registry.{Registry, Entry}
+use Rattle.tera_meaning.specs.Resolve.{resolve}
 use Rattle.tera_registry.specs.declared.code.TemplateBlock.{TemplateBlock}
 use Rattle.tera_registry.specs.declared.components.Component.{Component}
 use Rattle.tera_registry.specs.declared.outside_calls.OutsideCall.{OutsideCall}
 use Rattle.tera_registry.specs.Components.{kept_block, kept_of, kept_as, kept_all}
-use Rattle.tera_registry.specs.OutsideCalls.{is_built_in, as_need, callee_needed, need_of, nodes_need, needs_of, is_missing_call, needed_by, code_needs, bodies_need}
+use Rattle.tera_registry.specs.OutsideCalls.{is_built_in, as_need, callee_needed, need_of, nodes_need, needs_of, is_missing_call, included_by, needed_by, code_needs, bodies_need}
 use Rattle.tera_registry.proofs.Element.{element}
 use Rattle.tera_registry.proofs.Rows.{drop-at}
 
@@ -99,6 +102,36 @@ bodies_need_as_tree file body blocks components nodes definitions e f g =
     let ds = map (λ d. d.1) definitions in
     ap₂ (λ x y. x ++ y) (ap₂ (λ x y. x ++ y) own of_blocks) of_components ∙ append_assoc (nodes_need nodes) (flat_map nodes_need bs) (flat_map nodes_need ds) ∙ ap (λ l. nodes_need nodes ++ l) (sym (flat-append nodes_need bs ds))
 
+-- What a template includes is among its needs.
+
+module _ (r : Registry) where
+  needs-include : (cs : List Callee) → filter_map (included_by r) (filter_map need_of cs) ≡ filter_map (resolve r) (filter_map template_called cs)
+  needs-include [] = refl
+  needs-include (c ∷ cs) = go c (is_built_in c) refl (needs-include cs)
+    where
+      go : (c : Callee) (built_in : Bool) → is_built_in c ≡ built_in → filter_map (included_by r) (filter_map need_of cs) ≡ filter_map (resolve r) (filter_map template_called cs) → filter_map (included_by r) (cons_option (if built_in then None else Some (as_need c)) (filter_map need_of cs)) ≡ filter_map (resolve r) (cons_option (template_called c) (filter_map template_called cs))
+      go (AFilter n) true e rest = rest
+      go (AFilter n) false e rest = rest
+      go (ATest n) true e rest = rest
+      go (ATest n) false e rest = rest
+      go (AFunction n) true e rest = rest
+      go (AFunction n) false e rest = rest
+      go (AComponent n) true e rest = rest
+      go (AComponent n) false e rest = rest
+      go (ATemplate n) true e rest = (let q : false ≡ true = e in cc)
+      go (ATemplate n) false e rest = ap (cons_option (resolve r n)) rest
+
+  pub tree-includes : (tree : Tree) → filter_map (included_by r) (needs_of tree) ≡ filter_map (resolve r) (included_names tree)
+  tree-includes tree = all (bodies tree)
+    where
+      all : (bs : List Nodes) → filter_map (included_by r) (flat_map nodes_need bs) ≡ filter_map (resolve r) (filter_map template_called (flat_map calls bs))
+      all [] = refl
+      all (b ∷ bs) =
+          filter_map-append (included_by r) (nodes_need b) (flat_map nodes_need bs)
+          ∙ ap₂ (λ x y. x ++ y) (needs-include (calls b)) (all bs)
+          ∙ sym (filter_map-append (resolve r) (filter_map template_called (calls b)) (filter_map template_called (flat_map calls bs)))
+          ∙ sym (ap (filter_map (resolve r)) (filter_map-append template_called (calls b) (flat_map calls bs)))
+
 -- A template lacks a callee where one of its needs is not met: what is built in is there in every engine.
 
 pub or-false : (b : Bool) → b ≡ (b || false)
@@ -110,24 +143,29 @@ either-there (Some o) b e = refl
 either-there None (Some b) e = refl
 either-there None None e = e
 
-module _ (engine : Engine) (there : Name → Bool) where
+module _ (engine : Engine) (component template : Name → Bool) where
+  abbrev known : Callee → Bool
+  known = is_known engine component template
+
   abbrev unknown : Callee → Bool
-  unknown c = not (is_known engine there c)
+  unknown c = not (known c)
 
   abbrev unmet : OutsideCall → Bool
-  unmet = is_missing_call engine there
+  unmet = is_missing_call known
 
-  built-in-known : (c : Callee) → is_built_in c ≡ true → is_known engine there c ≡ true
+  built-in-known : (c : Callee) → is_built_in c ≡ true → known c ≡ true
   built-in-known (AFilter n) e = either-there (at_name n engine.filters) (filter_named n) e
   built-in-known (ATest n) e = either-there (at_name n engine.tests) (test_named n) e
   built-in-known (AFunction n) e = either-there (at_name n engine.functions) (function_named n) e
   built-in-known (AComponent n) e = (let q : false ≡ true = e in cc)
+  built-in-known (ATemplate n) e = (let q : false ≡ true = e in cc)
 
   kept-callee : (c : Callee) → callee_needed (as_need c) ≡ c
   kept-callee (AFilter n) = refl
   kept-callee (ATest n) = refl
   kept-callee (AFunction n) = refl
   kept-callee (AComponent n) = refl
+  kept-callee (ATemplate n) = refl
 
   callee-unmet : (c : Callee) (built_in : Bool) → is_built_in c ≡ built_in → unknown c ≡ list_any unmet (cons_option (if built_in then None else Some (as_need c)) [])
   callee-unmet c true is = ap not (built-in-known c is)
@@ -141,9 +179,9 @@ module _ (engine : Engine) (there : Name → Bool) where
       joined None = refl
       joined (Some n) = ap (λ b. b || list_any unmet (filter_map need_of cs)) (sym (or-false (unmet n)))
 
-  pub lacks-needs : (tree : Tree) → lacks_a_callee engine there tree ≡ list_any unmet (needs_of tree)
+  pub lacks-needs : (tree : Tree) → lacks_a_callee known tree ≡ list_any unmet (needs_of tree)
   lacks-needs tree = all (bodies tree)
     where
-      all : (bs : List Nodes) → list_any (has_unknown engine there) bs ≡ list_any unmet (flat_map nodes_need bs)
+      all : (bs : List Nodes) → list_any (has_unknown known) bs ≡ list_any unmet (flat_map nodes_need bs)
       all [] = refl
       all (b ∷ bs) = ap₂ (λ x y. x || y) (callees-unmet (calls b)) (all bs) ∙ sym (list_any-append unmet (nodes_need b) (flat_map nodes_need bs))

@@ -4,11 +4,18 @@ use Rattle.std.specs.List.{cons_option}
 use Rattle.std.proofs.lemmas.Bool.{cases_lt}
 use Rattle.std.proofs.lemmas.List.{drop_all, append-nil}
 use Rattle.tera_code.specs.Code.{Code}
-use Rattle.tera_code.specs.Targets.{Target, TemplateNamed, ComponentNamed, target_in}
+use Rattle.tera_code.specs.Called.{called_by}
+use Rattle.tera_code.specs.declared.instruction.Instruction.{Instruction}
+use Rattle.tera_code.specs.Targets.{Target, TemplateNamed, ComponentNamed, target_called, target_in}
 use Rattle.tera_registry.specs.declared.code.Take.{Take}
 use Rattle.tera_registry.specs.Takes.{take_of, takes_from, takes_of, Ascends, IsRank}
 use Rattle.tera_registry.proofs.Element.{element}
 use Rattle.tera_registry.proofs.Rows.{drop-at}
+
+-- what is called and stands elsewhere is taken
+pub taken-of-called : (o : Option Instruction) → option_and_then target_in o ≡ option_and_then target_called (option_and_then called_by o)
+taken-of-called None = refl
+taken-of-called (Some i) = refl
 
 joined : (o : Option Take) (rest : List Take) → cons_option o rest ≡ cons_option o [] ++ rest
 joined None rest = refl

@@ -10,10 +10,13 @@ use Rattle.tera_code.specs.Code.{Code}
 use Rattle.tera_code.specs.Called.{called_by}
 use Rattle.tera_state.specs.Engine.{Engine}
 use Rattle.tera_meaning.specs.Known.{is_known}
+use Rattle.tera_meaning.specs.Accepted.{is_template}
 use Rattle.tera_registry.specs.declared.component_table.ComponentAt.{ComponentAt}
 use Rattle.tera_registry.specs.declared.components.Component.{Component}
+use Rattle.tera_registry.specs.declared.inventory.Inventory.{Inventory}
 use Rattle.tera_registry.specs.declared.text_components.TextComponents.{TextComponents}
 use Rattle.tera_registry.specs.Choices.{chosen}
+use Rattle.tera_registry.specs.Kept.{seen}
 
 -- the components of a text beside the templates, where there is one
 abbrev pub beside : Option TextComponents → List Component
@@ -25,12 +28,18 @@ abbrev pub is_there : BTreeMap (String Global) ComponentAt Global → List Compo
 is_there choices own name =
     is_some (chosen choices name) || list_any (λ c. bytes_eq name c.definition.name) own
 
-abbrev pub is_missing : Engine → (Name → Bool) → Option Callee → Bool
-is_missing engine there None = false
-is_missing engine there (Some callee) = not (is_known engine there callee)
+-- whether what is called is there among what an inventory holds
+abbrev pub known_in : {O : Type 0} → (O → Engine) → Inventory O → Callee → Bool
+known_in engine i =
+    is_known (engine i.objects.now) (is_there i.choices.now (beside i.own))
+    (is_template (seen i.templates.now i.prefixes.now))
 
-abbrev pub calls_missing : Engine → (Name → Bool) → Instruction → Bool
-calls_missing engine there i = is_missing engine there (called_by i)
+abbrev pub is_missing : (Callee → Bool) → Option Callee → Bool
+is_missing known None = false
+is_missing known (Some callee) = not (known callee)
 
-abbrev pub code_lacks : Engine → (Name → Bool) → Code → Bool
-code_lacks engine there = list_any (calls_missing engine there)
+abbrev pub calls_missing : (Callee → Bool) → Instruction → Bool
+calls_missing known i = is_missing known (called_by i)
+
+abbrev pub code_lacks : (Callee → Bool) → Code → Bool
+code_lacks known = list_any (calls_missing known)

@@ -7,7 +7,6 @@ pub mod Components
 pub mod Places
 pub mod Choices
 pub mod Known
-pub mod Naming
 pub mod OutsideCalls
 pub mod Batch
 pub mod Put

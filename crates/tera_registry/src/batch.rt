@@ -15,12 +15,12 @@ ghost use Rattle.tera_registry.specs.OutsideCalls.{needs_of};
 use crate::code::{Code, TemplateBlock};
 use crate::components::{Component, components};
 use crate::merge::{merge, sort};
-use crate::node_names::{Naming, all_includes, names_in};
 use crate::outside_calls::{OutsideCall, outside_calls};
 use crate::places::block_places;
 use crate::resolve::put;
 use crate::template::Template;
 use crate::template_tree::TemplateTree;
+use crate::top_blocks::top_blocks;
 use std::alloc::{AllocError, Global};
 use std::rc::Rc;
 use tera_code::blocks::blocks;
@@ -190,8 +190,7 @@ fn assemble(
         needs,
     } = code;
     let places = block_places(alloc, blocks.as_slice())?;
-    let tops = names_in(alloc, Naming::TopBlocks, nodes)?;
-    let includes = all_includes(alloc, output)?;
+    let tops = top_blocks(alloc, nodes)?;
     let free = free_names(alloc, nodes)?;
     Ok(Template {
         name: String::from_str(alloc, name)?,
@@ -201,7 +200,6 @@ fn assemble(
         blocks,
         places,
         tops,
-        includes,
         free,
         components,
         needs,

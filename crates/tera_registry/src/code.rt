@@ -3,13 +3,13 @@ ghost use Rattle.std.specs.Prelude.{◌≡◌, ◌++◌, [], slice_get, option_a
 ghost use Rattle.std.specs.List.{cons_option};
 ghost use Rattle.std.specs.Coded.{codes};
 ghost use Rattle.tera_errors.specs.Prelude.{Lacks};
-ghost use Rattle.tera_code.specs.Prelude.{target_in, target_of};
+ghost use Rattle.tera_code.specs.Prelude.{callee_of, target_called, target_in};
 ghost use Rattle.tera_registry.specs.Takes.{take_of, takes_of, Ascends, IsRank};
 ghost use Rattle.tera_registry.specs.declared.code.Take.{Take};
 
 use std::alloc::Global;
 use std::rc::Rc;
-use tera_code::{Chunk, Target};
+use tera_code::{Callee, Chunk};
 use tera_errors::TeraResult;
 use tera_values::Name;
 
@@ -47,23 +47,23 @@ impl Code {
     }
 }
 
-/// What is taken, with a name of its own.
-fn take_at(at: usize, target: Target<'_>) -> TeraResult<Take>
-    ensures ok { IfOk result (λ t. t ≡ take_of at (target_of target.entry)) }
+/// What the instruction at this position takes that stands elsewhere, if that is what it calls.
+fn take_at(at: usize, callee: Callee<'_>) -> TeraResult<Option<Take>>
+    ensures ok { IfOk result
+        (λ t. t ≡ option_map (take_of at) (target_called (callee_of callee.entry))) }
     ensures lacks { IfErr result Lacks }
 {
-    match target {
-        Target::Template(name) => Ok(Take {
-            at,
-            is_component: false,
-            name: name.share()?,
-        }),
-        Target::Component(name) => Ok(Take {
-            at,
-            is_component: true,
-            name: name.share()?,
-        }),
-    }
+    let (is_component, name) = match callee {
+        Callee::Template(name) => (false, name),
+        Callee::Component(name) => (true, name),
+        _ => return Ok(None),
+    };
+    let name = name.share()?;
+    Ok(Some(Take {
+        at,
+        is_component,
+        name,
+    }))
 }
 
 /// Puts what the instruction at this position takes behind what was found.
@@ -73,13 +73,13 @@ fn add_take(chunk: &Chunk, position: usize, found: &mut Vec<Take>) -> TeraResult
         ≡ found.old.items ++ cons_option (option_map (take_of position) target) []) }
     ensures lacks { IfErr result Lacks }
 {
-    match chunk.target_at(position) {
-        Some(target) => {
-            found.push(take_at(position, target)?)?;
-            Ok(())
-        }
-        None => Ok(()),
+    let Some(callee) = chunk.callee_at(position) else {
+        return Ok(());
+    };
+    if let Some(take) = take_at(position, callee)? {
+        found.push(take)?;
     }
+    Ok(())
 }
 
 /// What the code takes.

@@ -1,22 +1,21 @@
 // Who defines a block for a template, and which blocks are lost.
-ghost use Rattle.std.specs.Prelude.{◌≡◌, ◌<◌, [], ◌∷◌, length, slice_get, option_map, Some, IfSome};
+ghost use Rattle.std.specs.Prelude.{◌≡◌, ◌<◌, ◌∷◌, length, slice_get, option_map, Some, None, IfSome};
 ghost use Rattle.std.specs.List.{list_any};
-ghost use Rattle.tera_meaning.specs.Prelude.{loses_a_block, lacks_something, is_component, includes_of, misses_an_include, lacks_a_callee, ancestors, Entry, Registry};
+ghost use Rattle.tera_meaning.specs.Prelude.{loses_a_block, lacks_something, knows, lacks_a_callee, ancestors, Entry, Registry};
 ghost use Rattle.tera_registry.specs.Choices.{AreChosen};
 ghost use Rattle.tera_registry.specs.Definers.{Climbable, names_of};
-ghost use Rattle.tera_registry.specs.Edges.{AreEdges};
-ghost use Rattle.tera_registry.specs.Kept.{entry_of};
-ghost use Rattle.tera_registry.specs.Known.{is_there};
+ghost use Rattle.tera_registry.specs.Kept.{Rises, entry_of, entries_of, seen_by};
+ghost use Rattle.tera_registry.specs.Known.{known_in};
 ghost use Rattle.tera_registry.specs.OutsideCalls.{is_missing_call};
 ghost use Rattle.tera_registry.specs.Numbers.{first_of, lineage, number_at};
 ghost use Rattle.tera_registry.specs.Places.{place_from};
-ghost use Rattle.tera_registry.specs.Walks.{rows};
 
 use crate::component_table::ComponentAt;
-use crate::missing_callees::is_known;
+use crate::inventory::Inventory;
 use crate::outside_calls::OutsideCall;
 use crate::roots::Parent;
 use crate::template::Template;
+use std::alloc::Global;
 use std::collections::BTreeMap;
 use std::rc::Rc;
 use tera_state::Objects;
@@ -113,103 +112,73 @@ fn has_orphan_block(templates: &[Rc<Template>], ups: &[Parent], of: usize) -> bo
     false
 }
 
-/// Whether a template includes what is not there, where so many of those that it includes are.
-fn has_missing_include(of: &Template, included: usize) -> bool
-    ensures { (r : Registry) → included ≡ length (includes_of r (entry_of of.now))
-        → result ≡ misses_an_include r (entry_of of.now).1.tree }
+/// Whether what is needed is not there: no object, no component, and no template.
+fn is_missing_call<O: Objects>(there: &Inventory<'_, O>, need: &OutsideCall) -> bool
+    ensures { result ≡ is_missing_call (known_in O.engine there.now) need.now }
 {
-    included < of.includes.len()
-}
-
-/// Whether what is needed is not there: no object, and no component.
-fn is_missing_call<O: Objects>(
-    objects: &O,
-    choices: &BTreeMap<String, ComponentAt>,
-    need: &OutsideCall,
-) -> bool
-    ensures { result ≡ is_missing_call (O.engine objects.now) (is_there choices.now []) need.now }
-{
-    !is_known(objects, choices, None, need.callee())
+    !there.is_known(need.callee())
 }
 
 /// Whether something of what is needed is not there.
-fn has_missing_call<O: Objects>(
-    objects: &O,
-    choices: &BTreeMap<String, ComponentAt>,
-    needs: &[OutsideCall],
-) -> bool
-    ensures { result
-        ≡ list_any (is_missing_call (O.engine objects.now) (is_there choices.now [])) needs.now }
+fn has_missing_call<O: Objects>(there: &Inventory<'_, O>, needs: &[OutsideCall]) -> bool
+    ensures { result ≡ list_any (is_missing_call (known_in O.engine there.now)) needs.now }
 {
-    needs
-        .iter()
-        .any(|need| is_missing_call(objects, choices, need))
+    needs.iter().any(|need| is_missing_call(there, need))
 }
 
 /// Whether a template calls what is not there. What is built in is none of its needs.
-fn has_missing_callee<O: Objects>(
-    objects: &O,
-    choices: &BTreeMap<String, ComponentAt>,
-    of: &Template,
-) -> bool
-    ensures { (r : Registry) → AreChosen r choices.now → r.engine ≡ O.engine objects.now
-        → result ≡ lacks_a_callee r.engine (is_component r) (entry_of of.now).1.tree }
+fn has_missing_callee<O: Objects>(there: &Inventory<'_, O>, of: &Template) -> bool
+    requires { there.now.own ≡ None }
+    ensures { (r : Registry) → AreChosen r there.now.choices.now
+        → r ≡ seen_by (O.engine there.now.objects.now) there.now.templates.now there.now.prefixes.now
+        → result ≡ lacks_a_callee (knows r) (entry_of of.now).1.tree }
 {
-    has_missing_call(objects, choices, of.needs.as_slice())
+    has_missing_call(there, of.needs.as_slice())
 }
 
-/// Whether a template names what is not there: a block that is never put out, or what it calls or includes. So many of
-/// those that it includes are there.
-fn is_incomplete<O: Objects>(
-    templates: &[Rc<Template>],
-    ups: &[Parent],
-    of: usize,
-    included: usize,
-    choices: &BTreeMap<String, ComponentAt>,
-    objects: &O,
-) -> bool
+/// Whether a template names what is not there: a block that is never put out, or what it calls.
+fn is_incomplete<O: Objects>(there: &Inventory<'_, O>, ups: &[Parent], of: usize) -> bool
     ghost registry: { Registry }
-    requires climbable { Climbable registry templates.now ups.now }
-    requires there { of < length templates.now }
-    requires included { (t : Entry) → slice_get registry.templates of ≡ Some t
-        → included ≡ length (includes_of registry t) }
-    requires choices { AreChosen registry choices.now }
-    requires engine { registry.engine ≡ O.engine objects.now }
+    requires climbable { Climbable registry there.now.templates.now ups.now }
+    requires there { of < length there.now.templates.now }
+    requires choices { AreChosen registry there.now.choices.now }
+    requires alone { there.now.own ≡ None }
+    requires registry { registry ≡ seen_by (O.engine there.now.objects.now)
+        there.now.templates.now there.now.prefixes.now }
     ensures { (t : Entry) → slice_get registry.templates of ≡ Some t
         → result ≡ lacks_something registry t }
 {
-    let template: &Template = &templates[of];
-    has_orphan_block(templates, ups, of)
-        || has_missing_callee(objects, choices, template)
-        || has_missing_include(template, included)
+    let template: &Template = &there.templates[of];
+    has_orphan_block(there.templates, ups, of) || has_missing_callee(there, template)
 }
 
-/// Whether any template names what is not there, where this is what each extends and includes, and these are the
-/// definitions of components that are taken, and the objects.
-pub fn any_is_incomplete<O: Objects>(
-    templates: &[Rc<Template>],
+/// Whether any template names what is not there, where this is what each extends, and these are the definitions of components that
+/// are taken, and the objects.
+pub fn any_is_incomplete<'a, O: Objects>(
+    alloc: Global,
+    templates: &'a [Rc<Template>],
+    prefixes: &'a [String],
     ups: &[Parent],
-    edges: &[Vec<usize>],
-    choices: &BTreeMap<String, ComponentAt>,
-    objects: &O,
+    choices: &'a BTreeMap<String, ComponentAt>,
+    objects: &'a O,
 ) -> bool
     ghost registry: { Registry }
+    requires rises { Rises (entries_of templates.now) }
     requires climbable { Climbable registry templates.now ups.now }
-    requires edges { AreEdges registry (rows edges.now) (length templates.now) }
-    requires as_many { length edges.now ≡ length templates.now }
     requires choices { AreChosen registry choices.now }
-    requires engine { registry.engine ≡ O.engine objects.now }
+    requires registry { registry ≡ seen_by (O.engine objects.now) templates.now prefixes.now }
     ensures { result ≡ list_any (lacks_something registry) registry.templates }
 {
+    let there = Inventory {
+        alloc,
+        templates,
+        prefixes,
+        choices,
+        own: None,
+        objects,
+    };
     for position in 0..templates.len() {
-        if is_incomplete(
-            templates,
-            ups,
-            position,
-            edges[position].len(),
-            choices,
-            objects,
-        ) {
+        if is_incomplete(&there, ups, position) {
             return true;
         }
     }

@@ -3,12 +3,31 @@ ghost use Rattle.std.specs.Prelude.{◌≡◌, length, IfOk};
 ghost use Rattle.tera_meaning.specs.Prelude.{includes_of};
 ghost use Rattle.tera_registry.specs.Edges.{all_at, AreThere, AreEdges};
 ghost use Rattle.tera_registry.specs.Kept.{Rises, entry_of, entries_of, seen};
+ghost use Rattle.tera_registry.specs.OutsideCalls.{included_by};
+ghost use Rattle.tera_registry.specs.Positions.{IsPosition};
 ghost use Rattle.tera_registry.specs.Walks.{rows};
 
+use crate::outside_calls::OutsideCall;
 use crate::resolve::resolve;
 use crate::template::Template;
 use std::alloc::{AllocError, Global};
 use std::rc::Rc;
+
+/// Where the template stands that is needed, where one is and is there. Takes no memory.
+pub fn included_position(
+    templates: &[Rc<Template>],
+    prefixes: &[String],
+    need: &OutsideCall,
+) -> Option<usize>
+    requires { Rises (entries_of templates.now) }
+    ensures { IsPosition (entries_of templates.now) result
+        (included_by (seen templates.now prefixes.now) need.now) }
+{
+    match need {
+        OutsideCall::Template(name) => resolve(templates, prefixes, name.as_str()),
+        _ => None,
+    }
+}
 
 /// Where those stand that a template includes, as far as they are there.
 fn included_positions(
@@ -23,8 +42,8 @@ fn included_positions(
     ensures there { IfOk result (λ v. AreThere v.items (length templates.now)) }
 {
     let mut positions = Vec::new(alloc);
-    for name in &of.includes {
-        if let Some(position) = resolve(templates, prefixes, name.as_str()) {
+    for need in &of.needs {
+        if let Some(position) = included_position(templates, prefixes, need) {
             positions.push(position)?;
         }
     }

@@ -78,9 +78,10 @@ pub fn link<O: Objects>(
         }
     };
     if any_is_incomplete(
+        alloc,
         templates,
+        prefixes,
         ups.as_slice(),
-        edges.as_slice(),
         &choices,
         objects,
     ) {

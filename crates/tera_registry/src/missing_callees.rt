@@ -1,14 +1,16 @@
-// What is called and is not there.
-ghost use Rattle.std.specs.Prelude.{◌≡◌, bytes_eq, Option, option_and_then, slice_get};
+// What is called, and whether it is there.
+ghost use Rattle.std.specs.Prelude.{◌≡◌, bytes_eq, option_and_then, slice_get};
 ghost use Rattle.std.specs.List.{list_any};
 ghost use Rattle.tera_code.specs.Prelude.{callee_of, called_by};
-ghost use Rattle.tera_meaning.specs.Prelude.{is_known};
-ghost use Rattle.tera_registry.specs.Known.{beside, is_there, is_missing, code_lacks};
+ghost use Rattle.tera_meaning.specs.Prelude.{is_template};
+ghost use Rattle.tera_registry.specs.Kept.{seen};
+ghost use Rattle.tera_registry.specs.Known.{beside, is_there, is_missing, known_in, code_lacks};
 
 use crate::code::Code;
-use crate::component_table::ComponentAt;
+use crate::components::Component;
+use crate::inventory::Inventory;
+use crate::resolve::resolve;
 use crate::text_components::TextComponents;
-use std::collections::BTreeMap;
 use tera_code::{Callee, Chunk};
 use tera_state::Objects;
 
@@ -22,86 +24,67 @@ fn is_own(own: Option<TextComponents<'_>>, name: &str) -> bool
     }
 }
 
-/// Whether a template defines a component of this name, or it is one of these.
-fn is_there(
-    choices: &BTreeMap<String, ComponentAt>,
-    own: Option<TextComponents<'_>>,
-    name: &str,
-) -> bool
-    ensures { result ≡ is_there choices.now (beside own.entry) name.now }
-{
-    choices.contains_key(name) || is_own(own, name)
-}
-
-/// Whether there is what is called: an object, or a component that a template defines or that is one of these.
-pub fn is_known<O: Objects>(
-    objects: &O,
-    choices: &BTreeMap<String, ComponentAt>,
-    own: Option<TextComponents<'_>>,
-    callee: Callee<'_>,
-) -> bool
-    ensures { result
-        ≡ is_known (O.engine objects.now) (is_there choices.now (beside own.entry))
-        (callee_of callee.entry) }
-{
-    match callee {
-        Callee::Filter(name) => objects.has_filter(name),
-        Callee::Test(name) => objects.has_test(name),
-        Callee::Function(name) => objects.has_function(name),
-        Callee::Component(name) => is_there(choices, own, name),
+impl<'a, O: Objects> Inventory<'a, O> {
+    // Whether a template or the text beside them defines a component of this name.
+    fn has_component(&self, name: &str) -> bool
+        ensures { result ≡ is_there self.now.choices.now (beside self.now.own) name.now }
+    {
+        self.choices.contains_key(name) || is_own(self.own, name)
     }
-}
 
-/// Whether the instruction at this position calls what is not there.
-fn is_missing_at<O: Objects>(
-    objects: &O,
-    choices: &BTreeMap<String, ComponentAt>,
-    own: Option<TextComponents<'_>>,
-    chunk: &Chunk,
-    position: usize,
-) -> bool
-    ensures { let called = option_and_then called_by (slice_get chunk.now.code position) in
-        result
-        ≡ is_missing (O.engine objects.now) (is_there choices.now (beside own.entry)) called }
-{
-    match chunk.callee_at(position) {
-        Some(callee) => !is_known(objects, choices, own, callee),
-        None => false,
+    // Whether the name resolves to a template.
+    fn has_template(&self, name: &str) -> bool
+        ensures { result
+            ≡ is_template (seen self.now.templates.now self.now.prefixes.now) name.now }
+    {
+        resolve(self.templates, self.prefixes, name).is_some()
     }
-}
 
-/// Whether the code calls what is not there. Takes no memory.
-pub fn code_has_missing_callee<O: Objects>(
-    objects: &O,
-    choices: &BTreeMap<String, ComponentAt>,
-    own: Option<TextComponents<'_>>,
-    chunk: &Chunk,
-) -> bool
-    ensures { result
-        ≡ code_lacks (O.engine objects.now) (is_there choices.now (beside own.entry))
-        chunk.now.code }
-{
-    for position in 0..chunk.len() {
-        if is_missing_at(objects, choices, own, chunk, position) {
-            return true;
+    /// Whether what is called is there. Takes no memory.
+    pub fn is_known(&self, callee: Callee<'_>) -> bool
+        ensures { result ≡ known_in O.engine self.now (callee_of callee.entry) }
+    {
+        match callee {
+            Callee::Filter(name) => self.objects.has_filter(name),
+            Callee::Test(name) => self.objects.has_test(name),
+            Callee::Function(name) => self.objects.has_function(name),
+            Callee::Component(name) => self.has_component(name.as_str()),
+            Callee::Template(name) => self.has_template(name.as_str()),
         }
     }
-    false
-}
 
-/// Whether the code of one of a text's components calls what is not there. Takes no memory.
-pub fn any_has_missing_callee<O: Objects>(
-    objects: &O,
-    choices: &BTreeMap<String, ComponentAt>,
-    own: TextComponents<'_>,
-) -> bool
-    ensures { let there = is_there choices.now (beside (Option.Some own.entry)) in
-        result ≡ list_any
-        (λ c. code_lacks (O.engine objects.now) there c.code.value.chunk.code)
-        own.entry.components.now }
-{
-    own.components.iter().any(|component| {
-        let code: &Code = &component.code;
-        code_has_missing_callee(objects, choices, Some(own), &code.chunk)
-    })
+    // Whether the instruction at this position calls what is not there.
+    fn is_missing_at(&self, chunk: &Chunk, position: usize) -> bool
+        ensures { result ≡ is_missing (known_in O.engine self.now)
+            (option_and_then called_by (slice_get chunk.now.code position)) }
+    {
+        match chunk.callee_at(position) {
+            Some(callee) => !self.is_known(callee),
+            None => false,
+        }
+    }
+
+    /// Whether the code calls what is not there. Takes no memory.
+    pub fn code_has_missing_callee(&self, chunk: &Chunk) -> bool
+        ensures { result ≡ code_lacks (known_in O.engine self.now) chunk.now.code }
+    {
+        for position in 0..chunk.len() {
+            if self.is_missing_at(chunk, position) {
+                return true;
+            }
+        }
+        false
+    }
+
+    /// Whether the code of one of the components calls what is not there. Takes no memory.
+    pub fn any_has_missing_callee(&self, components: &[Component]) -> bool
+        ensures { result ≡ list_any
+            (λ c. code_lacks (known_in O.engine self.now) c.code.value.chunk.code)
+            components.now }
+    {
+        components.iter().any(|component| {
+            let code: &Code = &component.code;
+            self.code_has_missing_callee(&code.chunk)
+        })
+    }
 }

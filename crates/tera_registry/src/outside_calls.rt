@@ -18,13 +18,14 @@ use tera_errors::TeraResult;
 use tera_syntax_tree::ParserOutput;
 use tera_values::Name;
 
-/// The name of a component that is called, or that of a filter, a test or a function that is not built in.
+/// The name of a component that is called, of a template that is included, or of a filter, a test or a function that is not built in.
 #[derive(Drop)]
 pub enum OutsideCall {
     Filter(Name),
     Test(Name),
     Function(Name),
     Component(Name),
+    Template(Name),
 }
 
 impl OutsideCall {
@@ -36,12 +37,13 @@ impl OutsideCall {
             OutsideCall::Filter(name) => Callee::Filter(name.as_str()),
             OutsideCall::Test(name) => Callee::Test(name.as_str()),
             OutsideCall::Function(name) => Callee::Function(name.as_str()),
-            OutsideCall::Component(name) => Callee::Component(name.as_str()),
+            OutsideCall::Component(name) => Callee::Component(name),
+            OutsideCall::Template(name) => Callee::Template(name),
         }
     }
 }
 
-/// Whether what is called is built in. No component is.
+/// Whether what is called is built in. No component and no template is.
 fn is_built_in(callee: Callee<'_>) -> bool
     ensures { result ≡ is_built_in (callee_of callee.entry) }
 {
@@ -49,7 +51,7 @@ fn is_built_in(callee: Callee<'_>) -> bool
         Callee::Filter(name) => BuiltInFilter::by_name(name).is_some(),
         Callee::Test(name) => BuiltInTest::by_name(name).is_some(),
         Callee::Function(name) => BuiltInFunction::by_name(name).is_some(),
-        Callee::Component(_) => false,
+        Callee::Component(_) | Callee::Template(_) => false,
     }
 }
 
@@ -62,7 +64,8 @@ fn outside_call_of(alloc: Global, callee: Callee<'_>) -> TeraResult<OutsideCall>
         Callee::Filter(name) => Ok(OutsideCall::Filter(Name::new(alloc, name)?)),
         Callee::Test(name) => Ok(OutsideCall::Test(Name::new(alloc, name)?)),
         Callee::Function(name) => Ok(OutsideCall::Function(Name::new(alloc, name)?)),
-        Callee::Component(name) => Ok(OutsideCall::Component(Name::new(alloc, name)?)),
+        Callee::Component(name) => Ok(OutsideCall::Component(name.share()?)),
+        Callee::Template(name) => Ok(OutsideCall::Template(name.share()?)),
     }
 }
 

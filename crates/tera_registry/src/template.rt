@@ -2,7 +2,7 @@
 ghost use Rattle.std.specs.Prelude.{◌≡◌, map, option_map, string_bytes};
 ghost use Rattle.std.specs.Coded.{codes};
 ghost use Rattle.tera_syntax_tree.specs.Blocks as in_tree;
-ghost use Rattle.tera_syntax_tree.specs.Prelude.{definitions_of, nodes_of, tree_includes, names_in};
+ghost use Rattle.tera_syntax_tree.specs.Prelude.{definitions_of, nodes_of, names_in};
 ghost use Rattle.tera_components.specs.Prelude.{definition_coding};
 ghost use Rattle.tera_registry.specs.Components as kept;
 ghost use Rattle.tera_registry.specs.TemplateTree.{tree_meant};
@@ -36,13 +36,12 @@ pub struct Template {
     pub(crate) places: BTreeMap<String, usize>,
     /// The names of those that are inside no other block.
     pub(crate) tops: Vec<Name>,
-    /// The names that it includes: in the order of the text those of its nodes, and then those of its components.
-    pub(crate) includes: Vec<Name>,
     /// The names that are free in its text, each once.
     pub(crate) free: BTreeSet<String>,
     /// The components that it defines, in the order of its text.
     pub(crate) components: Vec<Component>,
-    /// What it calls that is not built in. Whether that is there is looked up when templates are linked.
+    /// What it calls that is not built in, the templates that it includes among it. Whether that is there is looked up when templates
+    /// are linked.
     pub(crate) needs: Vec<OutsideCall>,
     pub(crate) meant: TemplateTree,
     ghost compiled: { body.value.chunk
@@ -57,8 +56,6 @@ pub struct Template {
             (codes, definition_coding, chunk.the_row.coded) },
     ghost needing: { needs.items
         ≡ needs_of (tree_meant (option_map string_bytes parent) meant) } by { Prim.hlevel (codes, need.the_row.coded) },
-    ghost included: { includes.items
-        ≡ tree_includes (tree_meant (option_map string_bytes parent) meant) } by { Prim.hlevel codes },
     ghost freed: { names_in free ≡ in_text.free (nodes_of meant.nodes) } by { Prim.hlevel codes },
     ghost topped: { tops.items
         ≡ in_tree.top_blocks (nodes_of meant.nodes) } by { Prim.hlevel codes },

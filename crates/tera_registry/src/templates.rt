@@ -1,8 +1,8 @@
 // All templates of an engine, linked.
 ghost use Rattle.std.specs.Prelude.{◌≡◌, ◌+◌, ◌<◌, IfOk, IfErr, IfSome, Some, None, Ok, map, length, slice_get, is_some, string_bytes, IsTrue, [], ◌∷◌, option_map};
 ghost use Rattle.tera_errors.specs.Prelude.{Gives, GivesOneOf, Lacks};
-ghost use Rattle.tera_syntax_tree.specs.Prelude.{delimiters_of, accepted, tree_of};
-ghost use Rattle.tera_meaning.specs.Prelude.{component, first_fault, is_component, misses_an_include, ancestors, AreComponentNames, AnswersVariables, resolve, Entry, Registry};
+ghost use Rattle.tera_syntax_tree.specs.Prelude.{delimiters_of, accepted};
+ghost use Rattle.tera_meaning.specs.Prelude.{component, first_fault, is_component, ancestors, AreComponentNames, AnswersVariables, resolve, Entry, Registry};
 ghost use Rattle.std.specs.Coded.{codes};
 ghost use Rattle.tera_code.specs.contracts.chunk.Chunk as chunk;
 ghost use Rattle.tera_registry.specs.contracts.component_table.ComponentAt as choice;
@@ -22,7 +22,6 @@ use crate::body::Body;
 use crate::body_table::{BodyTable, Targets};
 use crate::component_table::ComponentAt;
 use crate::definers::first_definer;
-use crate::includes::has_missing_include;
 use crate::link::link;
 use crate::resolve::resolve;
 use crate::roots::Parent;
@@ -34,7 +33,7 @@ use std::rc::Rc;
 use tera_components::ComponentDefinition;
 use tera_errors::{Error, TeraResult};
 use tera_state::Objects;
-use tera_syntax_tree::{Delimiters, ParserOutput};
+use tera_syntax_tree::Delimiters;
 use tera_values::{Name, NameRef};
 
 /// Templates by name, and the prefixes by which a name is looked up that none of them has.
@@ -414,14 +413,6 @@ impl Templates {
             prefixes: self.prefixes.as_slice(),
             choices: &self.choices,
         }
-    }
-
-    /// Whether a text includes what is not there. Takes no memory.
-    pub fn has_missing_include(&self, output: &ParserOutput<'_>) -> bool
-        ensures { (r : Registry) → result
-            ≡ misses_an_include (with_templates r self.now) (tree_of output.now) }
-    {
-        has_missing_include(output, self.all.as_slice(), self.prefixes.as_slice())
     }
 
     /// The names of the templates, in byte order.

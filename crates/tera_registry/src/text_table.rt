@@ -7,11 +7,11 @@ ghost use Rattle.tera_syntax_tree.specs.Prelude.{blocks};
 ghost use Rattle.tera_syntax_tree.specs.Tree.{Tree};
 ghost use Rattle.tera_code.specs.Prelude.{nodes_code};
 ghost use Rattle.tera_code.specs.contracts.chunk.Chunk as chunk;
-ghost use Rattle.tera_meaning.specs.Prelude.{lacks_a_callee, Registry};
-ghost use Rattle.tera_meaning.specs.Rendering.{is_component_beside};
+ghost use Rattle.tera_meaning.specs.Prelude.{knows_beside, lacks_a_callee, Registry};
 ghost use Rattle.tera_registry.specs.Components.{kept_of, kept_all, kept_names, first_kept};
 ghost use Rattle.tera_registry.specs.HandedOut.{code_of, found_of};
 ghost use Rattle.tera_registry.specs.Kept.{seen};
+ghost use Rattle.tera_registry.specs.Known.{beside};
 ghost use Rattle.tera_registry.specs.Places.{ArePlaces};
 ghost use Rattle.tera_registry.specs.References.{chunk_of, IsLinked, IsLinked-prop};
 ghost use Rattle.tera_registry.specs.Templates.{with_templates};
@@ -20,11 +20,11 @@ use crate::body::Body;
 use crate::body_table::LinkedBody;
 use crate::code::Code;
 use crate::components::Component;
-use crate::missing_callees::{any_has_missing_callee, code_has_missing_callee};
+use crate::inventory::Inventory;
 use crate::places::component_places;
 use crate::templates::{Defined, Templates};
 use crate::text_components::TextComponents;
-use crate::told_missing::{Inventory, NamedText, missing_error_of_text};
+use crate::told_missing::{NamedText, missing_error_of_text};
 use std::alloc::Global;
 use std::collections::BTreeMap;
 use tera_code::Chunk;
@@ -102,36 +102,15 @@ impl<'t> TextTable<'t> {
         })
     }
 
-    /// Whether it calls what is not there, where it has no block. Takes no memory.
-    pub fn has_missing_callee<O: Objects>(&self, objects: &O) -> bool
-        ensures { (r : Registry) (tree : Tree) (file : Name) → r.engine ≡ O.engine objects.now
-            → (chunk_of self.now.body).code ≡ nodes_code tree.nodes 0
-            → map kept_of self.now.components.items ≡ kept_all file tree.definitions
-            → blocks tree.nodes ≡ []
-            → result ≡ lacks_a_callee r.engine
-            (is_component_beside (with_templates r self.now.templates.now) tree) tree }
+    // What its names are looked up among.
+    fn inventory<'x, O: Objects>(&'x self, objects: &'x O) -> Inventory<'x, O>
+        ensures templates { result.templates.now ≡ self.now.templates.now.all.items }
+        ensures prefixes { result.prefixes.now ≡ self.now.templates.now.prefixes.items }
+        ensures choices { result.choices.now ≡ self.now.templates.now.choices }
+        ensures own { beside result.own ≡ self.now.components.items }
+        ensures objects { result.objects.now ≡ objects.now }
     {
-        let choices = &self.templates.choices;
-        let own = TextComponents {
-            components: self.components.as_slice(),
-            places: &self.places,
-        };
-        let code: &Code = &self.body.code;
-        code_has_missing_callee(objects, choices, Some(own), &code.chunk)
-            || any_has_missing_callee(objects, choices, own)
-    }
-
-    /// One refusal that names all that it calls and includes and that is not there.
-    #[inline(never)]
-    pub fn missing_error<'x, O: Objects>(
-        &'x self,
-        file: &'x str,
-        source: &'x str,
-        objects: &'x O,
-    ) -> Error
-        ensures { Tells result message }
-    {
-        let there = Inventory {
+        Inventory {
             alloc: self.templates.alloc,
             templates: self.templates.all.as_slice(),
             prefixes: self.templates.prefixes.as_slice(),
@@ -141,8 +120,36 @@ impl<'t> TextTable<'t> {
                 places: &self.places,
             }),
             objects,
-        };
+        }
+    }
+
+    /// Whether it calls what is not there, where it has no block. Takes no memory.
+    pub fn has_missing_callee<O: Objects>(&self, objects: &O) -> bool
+        ensures { (r : Registry) (tree : Tree) (file : Name) → r.engine ≡ O.engine objects.now
+            → (chunk_of self.now.body).code ≡ nodes_code tree.nodes 0
+            → map kept_of self.now.components.items ≡ kept_all file tree.definitions
+            → blocks tree.nodes ≡ []
+            → result ≡ lacks_a_callee
+            (knows_beside (with_templates r self.now.templates.now) tree) tree }
+    {
+        let there = self.inventory(objects);
         let code: &Code = &self.body.code;
-        missing_error_of_text(there, NamedText { file, source }, &code.chunk)
+        there.code_has_missing_callee(&code.chunk)
+            || there.any_has_missing_callee(self.components.as_slice())
+    }
+
+    /// One refusal that names all that it calls and that is not there.
+    #[inline(never)]
+    pub fn missing_error<'x, O: Objects>(
+        &'x self,
+        file: &'x str,
+        source: &'x str,
+        objects: &'x O,
+    ) -> Error
+        ensures { Tells result message }
+    {
+        let code: &Code = &self.body.code;
+        let text = NamedText { file, source };
+        missing_error_of_text(self.inventory(objects), text, &code.chunk)
     }
 }

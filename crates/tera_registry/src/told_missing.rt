@@ -10,33 +10,20 @@ use crate::code::Code;
 use crate::component_table::ComponentAt;
 use crate::components::Component;
 use crate::definers::first_definer_above;
-use crate::missing_callees::is_known;
-use crate::resolve::resolve;
+use crate::inventory::Inventory;
 use crate::roots::Parent;
 use crate::template::Template;
-use crate::text_components::TextComponents;
 use std::alloc::{AllocError, Global};
 use std::collections::BTreeMap;
 use std::ops::Range;
 use std::rc::Rc;
 use tera_built_ins::{FILTERS, FUNCTIONS, TESTS};
-use tera_code::{Callee, Chunk, Target};
+use tera_code::{Callee, Chunk};
 use tera_errors::{Error, Guess, Place, Span, place_of};
 use tera_state::Objects;
 
 /// For so many of the names that are not there, one is sought that may be meant: it takes a look at all names.
 const MOST_GUESSES: usize = 20;
-
-/// What names are looked up among.
-#[derive_where(Clone, Copy)]
-pub(crate) struct Inventory<'a, O> {
-    pub(crate) alloc: Global,
-    pub(crate) templates: &'a [Rc<Template>],
-    pub(crate) prefixes: &'a [String],
-    pub(crate) choices: &'a BTreeMap<String, ComponentAt>,
-    pub(crate) own: Option<TextComponents<'a>>,
-    pub(crate) objects: &'a O,
-}
 
 /// A text whose names are looked up.
 #[derive(Clone, Copy)]
@@ -99,7 +86,6 @@ pub(crate) fn missing_error_of_text<O: Objects>(
     text: NamedText<'_>,
     body: &Chunk,
 ) -> Error
-    requires { Rises (entries_of there.templates.now) }
     ensures { Tells result message }
 {
     let mut missing = Missing::new(there.alloc);
@@ -118,7 +104,6 @@ impl<'a, O: Objects> Inventory<'a, O> {
         missing: &mut Missing,
     ) -> Result<(), AllocError>
         ghost registry: { Registry }
-        requires rises { Rises (entries_of self.now.templates.now) }
         requires climbable { Climbable registry self.now.templates.now ups.now }
         requires there { of < length self.now.templates.now }
     {
@@ -143,9 +128,7 @@ impl<'a, O: Objects> Inventory<'a, O> {
         text: NamedText<'_>,
         body: &Chunk,
         missing: &mut Missing,
-    ) -> Result<(), AllocError>
-        requires { Rises (entries_of self.now.templates.now) }
-    {
+    ) -> Result<(), AllocError> {
         self.add_code(text.source, body, missing)?;
         if let Some(own) = self.own {
             self.add_codes(text.source, own.components, missing)?;
@@ -153,21 +136,18 @@ impl<'a, O: Objects> Inventory<'a, O> {
         missing.put_all(text.file, text.source)
     }
 
-    // Adds what the code of a text calls and includes that is not there.
-    fn add_code(&self, source: &str, chunk: &Chunk, missing: &mut Missing) -> Result<(), AllocError>
-        requires { Rises (entries_of self.now.templates.now) }
-    {
+    // Adds what the code of a text calls that is not there.
+    fn add_code(
+        &self,
+        source: &str,
+        chunk: &Chunk,
+        missing: &mut Missing,
+    ) -> Result<(), AllocError> {
         for position in 0..chunk.len() {
-            let span = chunk.span_at(position);
             if let Some(callee) = chunk.callee_at(position) {
-                if !is_known(self.objects, self.choices, self.own, callee) {
-                    self.add_callee(callee, position_of_callee(source, callee, span), missing)?;
-                }
-            }
-            if let Some(Target::Template(name)) = chunk.target_at(position) {
-                let name = name.as_str();
-                if resolve(self.templates, self.prefixes, name).is_none() {
-                    self.add_include(name, start(span), missing)?;
+                if !self.is_known(callee) {
+                    let at = position_of_callee(source, callee, chunk.span_at(position));
+                    self.add_callee(callee, at, missing)?;
                 }
             }
         }
@@ -180,9 +160,7 @@ impl<'a, O: Objects> Inventory<'a, O> {
         source: &str,
         components: &[Component],
         missing: &mut Missing,
-    ) -> Result<(), AllocError>
-        requires { Rises (entries_of self.now.templates.now) }
-    {
+    ) -> Result<(), AllocError> {
         for component in components {
             let code: &Code = &component.code;
             self.add_code(source, &code.chunk, missing)?;
@@ -228,13 +206,14 @@ impl<'a, O: Objects> Inventory<'a, O> {
         at: usize,
         missing: &mut Missing,
     ) -> Result<(), AllocError> {
-        let (kind, name) = match callee {
-            Callee::Filter(name) => ("filter", name),
-            Callee::Test(name) => ("test", name),
-            Callee::Function(name) => ("function", name),
-            Callee::Component(name) => ("component", name),
+        let (kind, name, purpose) = match callee {
+            Callee::Filter(name) => ("filter", name, ""),
+            Callee::Test(name) => ("test", name, ""),
+            Callee::Function(name) => ("function", name, ""),
+            Callee::Component(name) => ("component", name.as_str(), ""),
+            Callee::Template(name) => ("template", name.as_str(), " to include"),
         };
-        let mut words = format!(in self.alloc; "there is no {kind} `{name}`")?;
+        let mut words = format!(in self.alloc; "there is no {kind} `{name}`{purpose}")?;
         if missing.may_guess() {
             let mut guess = Guess::new(self.alloc, name);
             self.guess_callee(callee, &mut guess)?;
@@ -258,6 +237,7 @@ impl<'a, O: Objects> Inventory<'a, O> {
                 self.objects.guess_function(guess)
             }
             Callee::Component(_) => self.guess_component(guess),
+            Callee::Template(_) => add_templates(self.templates, guess),
         }
     }
 
@@ -269,17 +249,6 @@ impl<'a, O: Objects> Inventory<'a, O> {
             Some(own) => add_names_of(own.components, guess),
             None => Ok(()),
         }
-    }
-
-    // An included name that no template has.
-    fn add_include(&self, name: &str, at: usize, missing: &mut Missing) -> Result<(), AllocError> {
-        let mut words = format!(in self.alloc; "there is no template `{name}` to include")?;
-        if missing.may_guess() {
-            let mut guess = Guess::new(self.alloc, name);
-            add_templates(self.templates, &mut guess)?;
-            guess.put(&mut words)?;
-        }
-        missing.add(at, words)
     }
 }
 

@@ -10,7 +10,7 @@ ghost use Rattle.tera_registry.specs.Edges.{all_at, AreThere};
 ghost use Rattle.tera_registry.specs.Kept.{Rises, entry_of, entries_of, seen};
 ghost use Rattle.tera_registry.specs.Reached.{AreReached, Reaches, IsClosure, Uncircled};
 
-use crate::resolve::resolve;
+use crate::include_edges::included_position;
 use crate::roots::{Parent, parent_of};
 use crate::template::Template;
 use std::alloc::{AllocError, Global};
@@ -76,8 +76,8 @@ fn reach_included(
         (includes_of (seen templates.now prefixes.now) (entry_of of.now))
         reached.old.items reached.new.items marks.new) }
 {
-    for name in &of.includes {
-        if let Some(position) = resolve(templates, prefixes, name.as_str()) {
+    for need in &of.needs {
+        if let Some(position) = included_position(templates, prefixes, need) {
             reach(reached, marks, position)?;
         }
     }

@@ -1,14 +1,21 @@
 -- What a tree calls.
-use Rattle.std.specs.Prelude.{List, [], ◌∷◌, ◌++◌}
+use Rattle.std.specs.Prelude.{List, [], ◌∷◌, ◌++◌, Option, Some, None}
 use Rattle.tera_errors.specs.Site as site
 use Rattle.tera_syntax_tree.specs.Tree.{Expr, Nothing, Boolean, Integer, Text, Name, Attribute, Index, Slice, Not, Negate, Binary, And, Or, Ternary, Array, Map, Comprehension, Super, Filter, Test, Call, Component, Optional, Absent, Present, Items, NoItems, MoreItems, Entries, NoEntries, MoreEntries, Arguments, NoArguments, MoreArguments, Filters, NoFilters, MoreFilters, Node, Content, Print, If, Set, Capture, FilterSection, For, Block, Include, ComponentCall, Break, Continue, Nodes, NoNodes, MoreNodes}
 
--- a name that is called as a filter, a test, a function or a component
+-- a name that is called as a filter, a test, a function or a component, or that is included as a
+-- template
 pub data Callee : Type 0 where
   AFilter : (name : site.Name) → Callee
   ATest : (name : site.Name) → Callee
   AFunction : (name : site.Name) → Callee
   AComponent : (name : site.Name) → Callee
+  ATemplate : (name : site.Name) → Callee
+
+-- the name of the template, where one is called
+abbrev pub template_called : Callee → Option site.Name
+template_called (ATemplate name) = Some name
+template_called _ = None
 
 -- all that is called, in the order in which it is evaluated where all of it is
 abbrev mutual
@@ -69,7 +76,7 @@ abbrev mutual
   node_calls (FilterSection fs body) = calls body ++ filters_calls fs
   node_calls (For key n e body other) = expr_calls e ++ (calls body ++ calls other)
   node_calls (Block n body span) = []
-  node_calls (Include n span) = []
+  node_calls (Include n span) = ATemplate n ∷ []
   node_calls (ComponentCall n all body span) =
       calls body ++ (entries_calls all ++ AComponent n ∷ [])
   node_calls Break = []

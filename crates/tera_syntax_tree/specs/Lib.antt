@@ -6,7 +6,6 @@ pub mod Gathered
 pub mod Blocks
 pub mod Definitions
 pub mod Calls
-pub mod Includes
 pub mod Depth
 pub mod Inside
 pub mod Free

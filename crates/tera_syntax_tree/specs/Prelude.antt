@@ -11,7 +11,6 @@ pub use Rattle.tera_syntax_tree.specs.View.{quoted_option, signature_of, tag_of,
 pub use Rattle.tera_syntax_tree.specs.Blocks.{are_distinct, block_names, blocks, is_among, node_blocks, node_top_blocks, own_block}
 pub use Rattle.tera_syntax_tree.specs.Blocks.{top_blocks}
 pub use Rattle.tera_syntax_tree.specs.Definitions.{component_names, has_fit_parameters}
-pub use Rattle.tera_syntax_tree.specs.Includes.{definitions_include, includes, node_includes, own_include, tree_includes}
 pub use Rattle.tera_syntax_tree.specs.Inside.{DefinitionsInside, Inside, NodeInside, NodesInside, Within}
 pub use Rattle.tera_syntax_tree.specs.Free.{only, ◌∪◌}
 pub use Rattle.tera_syntax_tree.specs.Sets.{names_in}

@@ -5,7 +5,7 @@ use Rattle.tera_errors.specs.Site.{Text}
 use Rattle.tera_errors.specs.Fault.{Fault}
 use Rattle.tera_syntax_tree.specs.Tree.{Nodes}
 use Rattle.tera_syntax_tree.specs.Calls as called
-use Rattle.tera_syntax_tree.specs.Calls.{AFilter, ATest, AFunction, AComponent, calls}
+use Rattle.tera_syntax_tree.specs.Calls.{AFilter, ATest, AFunction, AComponent, ATemplate, calls}
 use Rattle.tera_values.specs.Alphabet.{Mark, template, marked_safe, escaped, made, Marked}
 use Rattle.tera_values.specs.Named.{Named}
 use Rattle.tera_values.specs.Val.{Val}
@@ -59,6 +59,7 @@ CalleeHolds K engine (AFilter name) = FilterHolds K (filter_at engine name)
 CalleeHolds K engine (AFunction name) = FunctionHolds K (function_at engine name)
 CalleeHolds K engine (ATest name) = Unit {0}
 CalleeHolds K engine (AComponent name) = Unit {0}
+CalleeHolds K engine (ATemplate name) = Unit {0}
 
 abbrev pub CallsHold : Claim → Engine → List called.Callee → Type 0
 CallsHold K engine cs = AllByRecursion (CalleeHolds K engine) cs

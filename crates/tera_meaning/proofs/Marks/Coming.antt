@@ -7,7 +7,7 @@ use Rattle.tera_errors.specs.Site.{Name, Text}
 use Rattle.tera_errors.specs.Fault.{Fault}
 use Rattle.tera_syntax_tree.specs.Tree.{Nodes}
 use Rattle.tera_syntax_tree.specs.Calls as called
-use Rattle.tera_syntax_tree.specs.Calls.{AFilter, ATest, AFunction, AComponent, calls}
+use Rattle.tera_syntax_tree.specs.Calls.{AFilter, ATest, AFunction, AComponent, ATemplate, calls}
 use Rattle.tera_values.specs.Alphabet.{Mark, template, marked_safe, escaped, made, outside, Marked}
 use Rattle.tera_built_ins.specs.declared.built_in_filter.BuiltInFilter.{BuiltInFilter}
 use Rattle.tera_built_ins.specs.declared.built_in_function.BuiltInFunction.{BuiltInFunction}
@@ -80,6 +80,7 @@ module _ (s : Sources) where
   callee-holds (ATest name) h = tt
   callee-holds (AFunction name) h = function-holds name (function_at s.engine name) refl
   callee-holds (AComponent name) h = tt
+  callee-holds (ATemplate name) h = tt
 
   all-bodies : (bs : List Nodes) → AllByRecursion (λ body. AllByRecursion (TextHolds came template) (contents body)) bs → AllByRecursion (λ body. CallsHold came s.engine (calls body)) bs → AllByRecursion (BodyHolds came s.engine) bs
   all-bodies [] h k = tt

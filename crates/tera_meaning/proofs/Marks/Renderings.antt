@@ -14,11 +14,10 @@ use Rattle.tera_meaning.specs.Run.{Signal, AnswerOf}
 use Rattle.tera_meaning.specs.Registry.{Entry, Registry}
 use Rattle.tera_meaning.specs.Known.{bodies, lacks_a_callee}
 use Rattle.tera_meaning.specs.Components.{Component, component, one_off_name}
-use Rattle.tera_meaning.specs.Accepted.{misses_an_include}
 use Rattle.tera_meaning.specs.Resolve.{resolve, root}
 use Rattle.tera_meaning.specs.Lineage.{Definer, definers}
 use Rattle.tera_meaning.specs.Whole.{World, PlaceOf, meaning_in}
-use Rattle.tera_meaning.specs.Rendering.{alone, beside, autoescapes, has_a_block, is_component_beside, outermost_in, text_of, last_text, block_of, block_among_in, render_template_in, render_template_block_in, render_str_in, within_context_in, render_found_component_in}
+use Rattle.tera_meaning.specs.Rendering.{alone, beside, autoescapes, has_a_block, knows_beside, outermost_in, text_of, last_text, block_of, block_among_in, render_template_in, render_template_block_in, render_str_in, within_context_in, render_found_component_in}
 use Rattle.tera_meaning.specs.Marks.Renderings.{Rendering, of_text, of_template, of_block, of_component, answered_in, found_escapes, escapes, bodies_read, handed_values, values_named, values_given, template_bodies, sources}
 use Rattle.tera_meaning.proofs.Marks.All.{all-left, all-right, all-each, all-map}
 use Rattle.tera_meaning.proofs.Marks.Claim.{Claim, NamesHold, BodyHolds, ValueHolds, SourcesHold}
@@ -93,7 +92,7 @@ module _ {K : Claim} (r : Registry) (by_html : r.engine.escape ≡ escape_html) 
   text-traced (Ok tree) context flag h k on =
       let world : WorldHolds K (beside r tree) = record { templates = templates; beside = definitions-hold K r.engine tree h } in
       either (is_some tree.parent || has_a_block tree.nodes) _ _
-      (either (lacks_a_callee r.engine (is_component_beside r tree) tree || misses_an_include r tree) _ _
+      (either (lacks_a_callee (knows_beside r tree) tree) _ _
       (traced (nodes-stand (beside r tree) refl world None one_off_name tree.nodes h.0 context k flag by_html global on)))
 
   module _ (context : Named Val) (k : NamesHold K context) where

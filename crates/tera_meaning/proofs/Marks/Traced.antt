@@ -5,7 +5,7 @@ use Rattle.tera_errors.specs.Site.{Name, Text}
 use Rattle.tera_errors.specs.Fault.{Fault}
 use Rattle.tera_syntax_tree.specs.Tree.{Nodes}
 use Rattle.tera_syntax_tree.specs.Calls as called
-use Rattle.tera_syntax_tree.specs.Calls.{AFilter, ATest, AFunction, AComponent, calls}
+use Rattle.tera_syntax_tree.specs.Calls.{AFilter, ATest, AFunction, AComponent, ATemplate, calls}
 use Rattle.tera_values.specs.Alphabet.{Mark, template, marked_safe, escaped, made, Marked}
 use Rattle.tera_built_ins.specs.declared.built_in_filter.BuiltInFilter.{BuiltInFilter}
 use Rattle.tera_built_ins.specs.declared.built_in_function.BuiltInFunction.{BuiltInFunction}
@@ -58,6 +58,7 @@ callee-holds engine (AFilter name) = filter-holds (filter_at engine name)
 callee-holds engine (ATest name) = tt
 callee-holds engine (AFunction name) = function-holds (function_at engine name)
 callee-holds engine (AComponent name) = tt
+callee-holds engine (ATemplate name) = tt
 
 body-holds : (engine : Engine) (body : Nodes) → BodyHolds trusted engine body
 body-holds engine body = record {

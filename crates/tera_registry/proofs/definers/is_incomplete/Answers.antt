@@ -1,29 +1,24 @@
-use Rattle.std.proofs.Common.{◌≡◌, Bool, true, false, ◌||◌, length, refl, sym, ap, ap₂, ◌∙◌}
-use Rattle.tera_meaning.specs.Accepted.{is_component, includes_of, loses_a_block, lacks_something, misses_an_include}
+use Rattle.std.proofs.Common.{◌≡◌, Bool, Global, true, false, ◌||◌, refl, sym, ap, ap₂, ◌∙◌}
+use Rattle.std.specs.declared.rc.Rc.{Rc}
+use Rattle.tera_meaning.specs.Accepted.{knows, loses_a_block, lacks_something}
 use Rattle.tera_meaning.specs.Known.{lacks_a_callee}
 use Rattle.tera_meaning.specs.Registry.{Registry, Entry}
+use Rattle.tera_registry.specs.declared.template.Template.{Template as Stored}
 use Rattle.tera_registry.proofs.Kept.{entry-is}
 use Rattle.tera_registry.proofs.definers.is_incomplete.Goals as goal
-use Rattle.tera_registry.proofs.definers.is_incomplete.Goals.{then-has_orphan_block, else-has_orphan_block}
 
-is_incomplete-by : (r : Registry) (t : Entry) (loses callee include : Bool) → loses ≡ loses_a_block r t → callee ≡ lacks_a_callee r.engine (is_component r) t.1.tree → include ≡ misses_an_include r t.1.tree → (loses || (callee || include)) ≡ lacks_something r t
-is_incomplete-by r t loses callee include e f h = ap₂ (λ x y. x || y) e (ap₂ (λ x y. x || y) f h)
+by-parts : (r : Registry) (t : Entry) (loses callee : Bool) → loses ≡ loses_a_block r t → callee ≡ lacks_a_callee (knows r) t.1.tree → (loses || callee) ≡ lacks_something r t
+by-parts r t loses callee e f = ap₂ (λ x y. x || y) e f
 
-pub returns-then-has_missing_callee : goal.returns-then-has_missing_callee
-returns-then-has_missing_callee g c = λ t at.
+pub returns-then-has_orphan_block : goal.returns-then-has_orphan_block
+returns-then-has_orphan_block g c = λ t at.
+    c.if-has_orphan_block.true ∙ by-parts g.registry t true _ (sym c.if-has_orphan_block.true ∙ c.has_orphan_block.ensures t at) refl
+
+pub returns-else-has_orphan_block : goal.returns-else-has_orphan_block
+returns-else-has_orphan_block g c = λ t at.
     let r = g.registry in
-    let same = entry-is r c.args.templates.now c.args.of _ _ t c.requires.1.0.same c.requires.1.1.0 c.index-templates-of.is c.deref-template.ensures at in
-    c.if-has_missing_callee.true ∙ elim c.if-has_orphan_block.branch [
-      | then-has_orphan_block w ↦ is_incomplete-by r t true _ _ (sym w.if-has_orphan_block.true ∙ c.has_orphan_block.ensures t at) refl refl
-      | else-has_orphan_block w ↦ is_incomplete-by r t false true _ (sym w.if-has_orphan_block.false ∙ c.has_orphan_block.ensures t at) (sym c.if-has_missing_callee.true ∙ w.value-is ∙ w.has_missing_callee.ensures r c.requires.1.1.1.1.0 c.requires.1.1.1.1.1 ∙ ap (λ (u : Entry). lacks_a_callee r.engine (is_component r) u.1.tree) same) refl
-    ]
-
-pub returns-else-has_missing_callee : goal.returns-else-has_missing_callee
-returns-else-has_missing_callee g c = λ t at.
-    let r = g.registry in
-    let same = entry-is r c.args.templates.now c.args.of _ _ t c.requires.1.0.same c.requires.1.1.0 c.index-templates-of.is c.deref-template.ensures at in
-    let include = c.has_missing_include.ensures r (c.requires.1.1.1.0 t at ∙ ap (λ u. length (includes_of r u)) (sym same)) ∙ ap (λ (u : Entry). misses_an_include r u.1.tree) same in
-    elim c.if-has_orphan_block.branch [
-      | then-has_orphan_block w ↦ (let q : true ≡ false = sym (w.value-is ∙ w.if-has_orphan_block.true) ∙ c.if-has_missing_callee.false in cc)
-      | else-has_orphan_block w ↦ is_incomplete-by r t false false _ (sym w.if-has_orphan_block.false ∙ c.has_orphan_block.ensures t at) (sym c.if-has_missing_callee.false ∙ w.value-is ∙ w.has_missing_callee.ensures r c.requires.1.1.1.1.0 c.requires.1.1.1.1.1 ∙ ap (λ (u : Entry). lacks_a_callee r.engine (is_component r) u.1.tree) same) include
-    ]
+    let given = c.requires.1 in
+    let value = c.deref-template.ensures ∙ sym (ap (λ (u : Rc Stored Global). u.value) c.index-there-of.is) in
+    let same = entry-is r c.args.there.now.templates.now c.args.of _ _ t given.0.same given.1.0 c.index-there-of.is value at in
+    by-parts r t false _ (sym c.if-has_orphan_block.false ∙ c.has_orphan_block.ensures t at)
+    (c.has_missing_callee.ensures r given.1.1.0 given.1.1.1.1 ∙ ap (λ (u : Entry). lacks_a_callee (knows r) u.1.tree) same)

@@ -2,14 +2,12 @@ use Rattle.std.proofs.Common.{◌≡◌, length, refl, sym, ap, subst, ◌∙◌
 use Rattle.tera_meaning.specs.Adding.{accepted}
 use Rattle.tera_meaning.specs.Registry.{Registry}
 use Rattle.tera_registry.specs.Choices.{AreChosen, IsFirstTie}
-use Rattle.tera_registry.specs.Edges.{AreEdges, IsFirstCircle}
-use Rattle.tera_registry.specs.Walks.{rows}
+use Rattle.tera_registry.specs.Edges.{IsFirstCircle}
 use Rattle.tera_registry.specs.Links.{AreUps}
 use Rattle.tera_registry.specs.Kept.{seen, seen_by}
 use Rattle.tera_registry.proofs.Ancestors.{grounded}
-use Rattle.tera_registry.proofs.Walking.{length-rows}
 use Rattle.tera_registry.proofs.Linked.{all-ups}
-use Rattle.tera_registry.proofs.Served.{climbable-served, ups-served, edges-served, circle-served, tie-served, chosen-served}
+use Rattle.tera_registry.proofs.Served.{climbable-served, ups-served, circle-served, tie-served, chosen-served}
 use Rattle.tera_registry.proofs.Circles.{all-edges, closed, first_circle}
 use Rattle.tera_registry.proofs.Checked.{climbed-says, climbed-faultless, lacks-says, keeps-all, told}
 use Rattle.tera_registry.proofs.link.link.Goals as goal
@@ -44,19 +42,15 @@ any_is_incomplete-requires g c = λ κs within.
     let ps = c.args.prefixes.now in
     let engine = g.O.Objects.engine c.args.objects.now in
     let here : seen_by engine ts ps ≡ g.registry = sym c.requires.1.1 in
-    let ups = all-ups ts ps _ _ c.as_slice-3.ensures.value c.in_ok-ups.ensures in
-    let edges : AreEdges (seen ts ps) (rows c.as_slice-4.result.now) (length ts) = rw c.as_slice-4.ensures.value c.in_ok-edges.ensures in (
+    let ups = all-ups ts ps _ _ c.as_slice-3.ensures.value c.in_ok-ups.ensures in (
       within,
       (
-        climbable-served engine ts ps g.registry _ here c.requires.1.0 ups (grounded g.registry (climbed-faultless g.registry c.in-Ok.ensures.answer)),
+        c.requires.1.0,
         (
-          subst (λ (r : Registry). AreEdges r (rows c.as_slice-4.result.now) (length ts)) here (edges-served engine ts ps _ _ edges),
+          climbable-served engine ts ps g.registry _ here c.requires.1.0 ups (grounded g.registry (climbed-faultless g.registry c.in-Ok.ensures.answer)),
           (
-            sym (length-rows c.as_slice-4.result.now) ∙ edges.as_many,
-            (
-              subst (λ (r : Registry). AreChosen r c.in_ok-choices.field-0.choices) here (chosen-served engine ts ps c.in_ok-choices.field-0.choices c.in_ok-choices.ensures.taken),
-              ap (λ (r : Registry). r.engine) c.requires.1.1,
-            ),
+            subst (λ (r : Registry). AreChosen r c.in_ok-choices.field-0.choices) here (chosen-served engine ts ps c.in_ok-choices.field-0.choices c.in_ok-choices.ensures.taken),
+            c.requires.1.1,
           ),
         ),
       ),
@@ -66,7 +60,7 @@ pub table_of-requires : goal.table_of-requires
 table_of-requires g c =
     let ts = c.args.templates.now in
     let ps = c.args.prefixes.now in
-    let ups = all-ups ts ps _ _ c.as_slice-5.ensures.value c.in_ok-ups.ensures in (
+    let ups = all-ups ts ps _ _ c.as_slice-4.ensures.value c.in_ok-ups.ensures in (
       c.requires.1.0,
       climbable-served (g.O.Objects.engine c.args.objects.now) ts ps g.registry _ (sym c.requires.1.1) c.requires.1.0 ups (grounded g.registry (climbed-faultless g.registry c.in-Ok.ensures.answer)),
     )

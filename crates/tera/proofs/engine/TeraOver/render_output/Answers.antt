@@ -6,16 +6,15 @@ use Rattle.tera_syntax_tree.specs.Tree.{Tree}
 use Rattle.tera_syntax_tree.specs.View.{definitions_of, nodes_of, tree_of}
 use Rattle.tera_meaning.specs.Components.{one_off_name}
 use Rattle.tera_meaning.specs.Known.{lacks_a_callee}
-use Rattle.tera_meaning.specs.Accepted.{misses_an_include}
 use Rattle.tera_code.specs.Code.{nodes_code}
 use Rattle.tera_code.specs.Listing.{Listing}
-use Rattle.tera_meaning.specs.Rendering.{is_component_beside}
+use Rattle.tera_meaning.specs.Rendering.{knows_beside}
 use Rattle.tera_registry.specs.Components.{kept_all}
 use Rattle.tera_registry.specs.Templates.{with_templates}
 use Rattle.tera_registry.specs.declared.templates.Templates.{Templates}
 use Rattle.tera_machine.specs.Subject.{Subject}
-use Rattle.tera.specs.Registry.{registry_of, is_there, tree_beside}
-use Rattle.tera.proofs.Renders.{lacking-says, missing-says, nothing-missing}
+use Rattle.tera.specs.Registry.{registry_of, knows_in, tree_beside}
+use Rattle.tera.proofs.Renders.{lacking-says, nothing-missing}
 use Rattle.tera.proofs.engine.TeraOver.render_output.Goals as goal
 
 pub returns-then-has_missing_callee-clause-means : goal.returns-then-has_missing_callee-clause-means
@@ -24,15 +23,9 @@ returns-then-has_missing_callee-clause-means g c =
     let own = c.in_ok-text.ensures.components ∙ c.in_ok-own.ensures.ok ∙ ap (λ xs. kept_all one_off_name (definitions_of xs)) c.as_slice-definitions.ensures.value in
     let r = registry_of g.O.Objects.engine c.args.self.now in
     let tree : Tree = tree_of c.args.output.now in
-    let lacks = subst (λ (ts : Templates). c.has_missing_callee.result ≡ lacks_a_callee r.engine (is_component_beside (with_templates r ts) tree) tree) c.in_ok-text.ensures.templates (c.has_missing_callee.ensures r tree one_off_name refl code own c.requires.1.1.1) in
-    let same = ap (λ (s : Subject). lacks_a_callee s.world.registry.engine (is_there s.world) (tree_beside s)) c.requires.1.1.0 in
+    let lacks = subst (λ (ts : Templates). c.has_missing_callee.result ≡ lacks_a_callee (knows_beside (with_templates r ts) tree) tree) c.in_ok-text.ensures.templates (c.has_missing_callee.ensures r tree one_off_name refl code own c.requires.1.1.1) in
+    let same = ap (λ (s : Subject). lacks_a_callee (knows_in s.world) (tree_beside s)) c.requires.1.1.0 in
     lacking-says g.about c.missing_error.result (same ∙ sym lacks ∙ c.if-has_missing_callee.true) c.missing_error.ensures
-
-pub returns-then-has_missing_include-clause-means : goal.returns-then-has_missing_include-clause-means
-returns-then-has_missing_include-clause-means g c =
-    let same = ap (λ (s : Subject). misses_an_include s.world.registry (tree_beside s)) c.requires.1.1.0 in
-    let missing = same ∙ sym (c.has_missing_include.ensures (registry_of g.O.Objects.engine c.args.self.now)) ∙ c.if-has_missing_include.true in
-    missing-says g.about c.missing_error-then-has_missing_include.result missing c.missing_error-then-has_missing_include.ensures
 
 pub returns-clause-means : goal.returns-clause-means
 returns-clause-means g c =
@@ -40,8 +33,7 @@ returns-clause-means g c =
     let own = c.in_ok-text.ensures.components ∙ c.in_ok-own.ensures.ok ∙ ap (λ xs. kept_all one_off_name (definitions_of xs)) c.as_slice-definitions.ensures.value in
     let r = registry_of g.O.Objects.engine c.args.self.now in
     let tree : Tree = tree_of c.args.output.now in
-    let lacks = subst (λ (ts : Templates). c.has_missing_callee.result ≡ lacks_a_callee r.engine (is_component_beside (with_templates r ts) tree) tree) c.in_ok-text.ensures.templates (c.has_missing_callee.ensures r tree one_off_name refl code own c.requires.1.1.1) in
-    let known = ap (λ (s : Subject). lacks_a_callee s.world.registry.engine (is_there s.world) (tree_beside s)) c.requires.1.1.0 ∙ sym lacks ∙ c.if-has_missing_callee.false in
-    let there = ap (λ (s : Subject). misses_an_include s.world.registry (tree_beside s)) c.requires.1.1.0 ∙ sym (c.has_missing_include.ensures (registry_of g.O.Objects.engine c.args.self.now)) ∙ c.if-has_missing_include.false in
+    let lacks = subst (λ (ts : Templates). c.has_missing_callee.result ≡ lacks_a_callee (knows_beside (with_templates r ts) tree) tree) c.in_ok-text.ensures.templates (c.has_missing_callee.ensures r tree one_off_name refl code own c.requires.1.1.1) in
+    let known = ap (λ (s : Subject). lacks_a_callee (knows_in s.world) (tree_beside s)) c.requires.1.1.0 ∙ sym lacks ∙ c.if-has_missing_callee.false in
     let P : Result Text Fault → Type 0 = Gives (string_bytes {Z = Global}) c.run_counted.result in
-    subst P (nothing-missing g.about known there) c.run_counted.ensures.means
+    subst P (nothing-missing g.about known) c.run_counted.ensures.means

@@ -1,4 +1,4 @@
-use Rattle.tera_registry.proofs.told_missing.Inventory.add_blocks.Given as goal
+use Rattle.tera_registry.proofs.inventory.Inventory.add_blocks.Given as goal
 
 abbrev pub ghost-first_definer_above : goal.ghost-first_definer_above
 ghost-first_definer_above g a = g.registry

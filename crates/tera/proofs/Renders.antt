@@ -17,9 +17,9 @@ use Rattle.tera_meaning.specs.Components.{one_off_name}
 use Rattle.tera_machine.specs.Config.{Config, config_of, starting}
 use Rattle.tera_machine.specs.Subject.{Subject, meant, meant_from, Means}
 use Rattle.tera_machine.specs.declared.configuration.Configuration.{Configuration}
-use Rattle.tera.specs.Registry.{subject_beside, text_meant, knows_in, tree_beside, one_off_meant}
+use Rattle.tera.specs.Registry.{subject_beside, text_meant, tree_beside, one_off_meant}
 use Rattle.tera.specs.Rendering.{OneOff, allowed}
-use Rattle.tera_meaning.specs.Rendering.{has_a_block, text_of, one_off_text, render_str, render_str_in}
+use Rattle.tera_meaning.specs.Rendering.{has_a_block, knows_in, text_of, one_off_text, render_str, render_str_in}
 use Rattle.tera_meaning.specs.Marks.Origin.{Traces}
 use Rattle.tera_meaning.proofs.Marks.Traced.{markup_is_traced}
 

@@ -1,5 +1,5 @@
 -- What an engine holds, as the definitions see it.
-use Rattle.std.specs.Prelude.{Bool, [], map, string_bytes, Option, Some, None, is_some, option_map, Result, Err, if◌then◌else◌}
+use Rattle.std.specs.Prelude.{Bool, [], map, string_bytes, Option, Some, None, option_map, Result, Err, if◌then◌else◌}
 use Rattle.tera_errors.specs.Site.{Text, Name}
 use Rattle.tera_errors.specs.Fault.{Fault, message}
 use Rattle.tera_values.specs.Val.{Val}
@@ -12,12 +12,10 @@ use Rattle.tera_components.specs.Definition.{Info, definition_of, info_of}
 use Rattle.tera_meaning.specs.Run.{begun}
 pub use Rattle.tera_meaning.specs.Registry.{Entry, Registry, new_registry, standard_suffixes}
 use Rattle.tera_meaning.specs.Resolve.{entry_at}
-use Rattle.tera_meaning.specs.Rendering.{alone, autoescapes, beside, outermost, text_of, block_of}
-use Rattle.tera_syntax_tree.specs.Calls.{Callee}
-use Rattle.tera_meaning.specs.Known.{is_known, lacks_a_callee}
+use Rattle.tera_meaning.specs.Rendering.{alone, autoescapes, beside, knows_in, outermost, text_of, block_of}
+use Rattle.tera_meaning.specs.Known.{lacks_a_callee}
 use Rattle.tera_meaning.specs.Components.{Component, component, one_off_name}
-use Rattle.tera_meaning.specs.Accepted.{is_template}
-use Rattle.tera_meaning.specs.Whole.{World, Place, component_at}
+use Rattle.tera_meaning.specs.Whole.{World, Place}
 use Rattle.tera_registry.specs.Templates.{templates_of, prefixes_of}
 use Rattle.tera_machine.specs.Subject.{Subject, template_of, meant}
 use Rattle.tera_machine.specs.declared.machine.VirtualMachine.{VirtualMachine}
@@ -97,14 +95,6 @@ place_in m file around = record {
 -- the text that a body means where it begins a rendering, or its fault
 abbrev pub text_meant : Subject → Result Text Fault
 text_meant s = text_of (meant s (begun nothing_set))
-
--- whether a name is that of a component of the world
-abbrev pub is_there : World → Name → Bool
-is_there w name = is_some (component_at w name)
-
--- whether what is called in the world is there
-abbrev pub knows_in : World → Callee → Bool
-knows_in w = is_known w.registry.engine (is_there w) (is_template w.registry)
 
 -- a body and the components of the text beside the registry
 abbrev pub tree_beside : Subject → Tree

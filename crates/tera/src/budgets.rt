@@ -98,7 +98,8 @@ impl<O: Objects> TeraOver<O> {
             template.entry.name.now context.now) }
     {
         let mut steps: Steps<Budget<L>> = Steps::with_limit(limit);
-        let answer = self.render_template(template.name, context, &mut steps);
+        let memory = String::new(self.alloc);
+        let answer = self.render_template(template.name, context, memory, &mut steps);
         unless_spent(answer, &steps)
     }
 
@@ -116,7 +117,8 @@ impl<O: Objects> TeraOver<O> {
             autoescape limit) }
     {
         let mut steps: Steps<Budget<L>> = Steps::with_limit(limit);
-        let answer = self.render_text(source.text, context, autoescape, &mut steps);
+        let memory = String::new(self.alloc);
+        let answer = self.render_text(source.text, context, autoescape, memory, &mut steps);
         unless_spent(answer, &steps)
     }
 
@@ -136,8 +138,9 @@ impl<O: Objects> TeraOver<O> {
             args.now implicits.now (lent_text call.entry.body) autoescape) }
     {
         let mut steps: Steps<Budget<L>> = Steps::with_limit(limit);
+        let memory = String::new(self.alloc);
         let answer = self.render_by_call(
-            call.name, args, implicits, call.body, autoescape, &mut steps,
+            call.name, args, implicits, call.body, autoescape, memory, &mut steps,
         );
         unless_spent(answer, &steps)
     }

@@ -13,7 +13,7 @@ ghost use Rattle.tera.specs.Rendering.{ComponentByName, AppendsOneOf};
 
 use crate::engine::TeraOver;
 use crate::refusals::no_component;
-use crate::texts::append_text;
+use crate::texts::{append_text, lend_memory};
 use std::alloc::Global;
 use tera_code::{Steps, Tally};
 use tera_components::ComponentInfo;
@@ -70,10 +70,11 @@ impl<O: Objects> TeraOver<O> {
             args.now implicits.now (lent_text body.entry) autoescape) }
     {
         let mut steps = Steps::new();
-        self.render_by_call(name, args, implicits, body, autoescape, &mut steps)
+        let memory = String::new(self.alloc);
+        self.render_by_call(name, args, implicits, body, autoescape, memory, &mut steps)
     }
 
-    // The same, of which each instruction is counted.
+    // The same, which is written to this memory, and of which each instruction is counted.
     pub(crate) fn render_by_call<T: Tally>(
         &self,
         name: &str,
@@ -81,6 +82,7 @@ impl<O: Objects> TeraOver<O> {
         implicits: &Context,
         body: Option<&str>,
         autoescape: bool,
+        memory: String,
         steps: &mut Steps<T>,
     ) -> TeraResult<String>
         ensures means { GivesOneOf string_bytes result
@@ -92,7 +94,7 @@ impl<O: Objects> TeraOver<O> {
         match self.templates.component(name) {
             Some(found) => {
                 let answer = self.render_found_component(
-                    found, args, implicits, body, autoescape, steps,
+                    found, args, implicits, body, autoescape, memory, steps,
                 );
                 self.tell(answer, None)
             }
@@ -100,7 +102,8 @@ impl<O: Objects> TeraOver<O> {
         }
     }
 
-    /// Appends what `render_component` answers. After an error the vector is as before.
+    /// Appends what `render_component` answers. After an error the vector is as before. An empty one lends its memory to the rendering, and
+    /// may have none after an error.
     pub fn render_component_to(
         &self,
         name: &str,
@@ -114,7 +117,11 @@ impl<O: Objects> TeraOver<O> {
             (ComponentByName (registry_of O.engine self.now) name.now
             args.now implicits.now (lent_text body.entry) autoescape) }
     {
-        let text = self.render_component(name, args, implicits, body, autoescape)?;
+        let memory = lend_memory(self.alloc, out);
+        let mut steps = Steps::new();
+        let text = self.render_by_call(
+            name, args, implicits, body, autoescape, memory, &mut steps,
+        )?;
         append_text(text, out)?;
         Ok(())
     }
@@ -128,6 +135,7 @@ impl<O: Objects> TeraOver<O> {
         implicits: &Context,
         body: Option<&str>,
         autoescape: bool,
+        memory: String,
         steps: &mut Steps<T>,
     ) -> TeraResult<String>
         requires defined { IsDefined
@@ -148,7 +156,7 @@ impl<O: Objects> TeraOver<O> {
             Err(error) => return Err(error),
         };
         scopes.enter_component(context)?;
-        self.run_component(found, scopes, autoescape, steps)
+        self.run_component(found, scopes, autoescape, memory, steps)
     }
 
     // The text of the body of a component, which reads these scopes. The subject is the body's.
@@ -157,6 +165,7 @@ impl<O: Objects> TeraOver<O> {
         found: Defined<'_>,
         scopes: Scopes<'_>,
         autoescape: bool,
+        memory: String,
         steps: &mut Steps<T>,
     ) -> TeraResult<String>
         ghost about: { Subject }
@@ -170,7 +179,7 @@ impl<O: Objects> TeraOver<O> {
         ensures few { steps.new ≤ steps.old + 8 * visits_meant about }
     {
         let machine = VirtualMachine::new_with_autoescape(self.alloc, autoescape, &self.objects);
-        self.run_counted(&machine, found.body, scopes, steps)
+        self.run_counted(&machine, found.body, scopes, memory, steps)
     }
 }
 

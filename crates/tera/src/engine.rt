@@ -10,7 +10,7 @@ ghost use Rattle.tera.specs.Rendering.{OneOff, AppendsOneOf};
 ghost use Rattle.tera.specs.Configuring.{Configures, with_delimiters, with_prefixes, with_suffixes};
 ghost use Rattle.tera.specs.Lent.{texts_of};
 
-use crate::texts::{append_text, copies_of, standard_suffixes};
+use crate::texts::{append_text, copies_of, lend_memory, standard_suffixes};
 use std::alloc::Global;
 use tera_code::{Steps, Tally};
 use tera_registry::Templates;
@@ -164,15 +164,22 @@ impl<O: Objects> TeraOver<O> {
             (OneOff (registry_of O.engine self.now) input.now context.now autoescape) }
     {
         let mut steps = Steps::new();
-        self.render_text(input, context, autoescape, &mut steps)
+        self.render_text(
+            input,
+            context,
+            autoescape,
+            String::new(self.alloc),
+            &mut steps,
+        )
     }
 
-    // The same, of which each instruction is counted.
+    // The same, which is written to this memory, and of which each instruction is counted.
     pub(crate) fn render_text<T: Tally>(
         &self,
         input: &str,
         context: &Context,
         autoescape: bool,
+        memory: String,
         steps: &mut Steps<T>,
     ) -> TeraResult<String>
         ensures means { GivesOneOf string_bytes result
@@ -180,11 +187,12 @@ impl<O: Objects> TeraOver<O> {
         ensures few { (n : ℕ) → steps.old + n < steps.new → TextTakesMore
             (registry_of O.engine self.now) input.now context.now autoescape n }
     {
-        let answer = self.read_and_render(input, context, autoescape, steps);
+        let answer = self.read_and_render(input, context, autoescape, memory, steps);
         self.tell(answer, Some(input))
     }
 
-    /// Appends what `render_str` answers. After an error the vector is as before.
+    /// Appends what `render_str` answers. After an error the vector is as before. An empty one lends its memory to the rendering, and
+    /// may have none after an error.
     pub fn render_str_to(
         &self,
         input: &str,
@@ -195,7 +203,9 @@ impl<O: Objects> TeraOver<O> {
         ensures { AppendsOneOf result out.old.items out.new.items
             (OneOff (registry_of O.engine self.now) input.now context.now autoescape) }
     {
-        let text = self.render_str(input, context, autoescape)?;
+        let memory = lend_memory(self.alloc, out);
+        let mut steps = Steps::new();
+        let text = self.render_text(input, context, autoescape, memory, &mut steps)?;
         append_text(text, out)?;
         Ok(())
     }

@@ -39,6 +39,7 @@ impl<O: Objects> TeraOver<O> {
         input: &str,
         context: &Context,
         autoescape: bool,
+        memory: String,
         steps: &mut Steps<T>,
     ) -> TeraResult<String>
         ensures means { GivesOneOf string_bytes result
@@ -53,6 +54,7 @@ impl<O: Objects> TeraOver<O> {
                     &output,
                     context,
                     autoescape,
+                    memory,
                     steps,
                 ),
                 Err(error) => Err(error),
@@ -69,6 +71,7 @@ impl<O: Objects> TeraOver<O> {
         output: &ParserOutput,
         context: &'s Context,
         autoescape: bool,
+        memory: String,
         steps: &mut Steps<T>,
     ) -> TeraResult<String>
         ghost about: { Subject }
@@ -92,7 +95,7 @@ impl<O: Objects> TeraOver<O> {
         let machine = alone.with_text(&text);
         let body = text.body();
         let scopes = self.scopes_for(body.chunk(), context)?;
-        self.run_counted(&machine, body, scopes, steps)
+        self.run_counted(&machine, body, scopes, memory, steps)
     }
 
     // The text of a template that was found, from the body of its root on: the file that its code names says of which. The
@@ -102,6 +105,7 @@ impl<O: Objects> TeraOver<O> {
         found: FoundTemplate<'t>,
         root: Body<'t>,
         context: &Context,
+        memory: String,
         steps: &mut Steps<T>,
     ) -> TeraResult<String>
         ghost about: { Subject }
@@ -117,7 +121,7 @@ impl<O: Objects> TeraOver<O> {
         let autoescape = self.escapes(found);
         let machine = VirtualMachine::for_template(self.alloc, autoescape, found, &self.objects);
         let scopes = self.scopes_for(root.chunk(), context)?;
-        self.run_counted(&machine, root, scopes, steps)
+        self.run_counted(&machine, root, scopes, memory, steps)
     }
 
     // The text that a block of a template had when it ended last, while all of the template was rendered. The subject is as above.
@@ -160,12 +164,13 @@ impl<O: Objects> TeraOver<O> {
         Ok(scopes)
     }
 
-    // The text of a body that reads these scopes. The subject is the body's: it tells the machine what it means.
+    // The text of a body that reads these scopes, written to this memory. The subject is the body's: it tells the machine what it means.
     pub(crate) fn run_counted<'t, T: Tally>(
         &self,
         machine: &VirtualMachine<'t, O>,
         body: Body<'t>,
         scopes: Scopes<'_>,
+        memory: String,
         steps: &mut Steps<T>,
     ) -> TeraResult<String>
         ghost about: { Subject }
@@ -179,7 +184,7 @@ impl<O: Objects> TeraOver<O> {
         ensures means { Gives string_bytes result (text_meant about) }
         ensures few { steps.new ≤ steps.old + 8 * visits_meant about }
     {
-        let mut configuration = Configuration::new(self.alloc, scopes);
+        let mut configuration = Configuration::with_memory(self.alloc, scopes, memory);
         match machine.run(body, &mut configuration, steps) {
             Ok(()) => Ok(configuration.texts.into_string()),
             Err(error) => Err(error),

@@ -9,7 +9,7 @@ ghost use Rattle.tera.specs.Rendering.{ByName, BlockByName, AppendsOneOf};
 use crate::engine::TeraOver;
 use crate::refusals::{no_block, no_template};
 use crate::sources::tell_of_batch;
-use crate::texts::{append_text, ends_with_one_of};
+use crate::texts::{append_text, ends_with_one_of, lend_memory};
 use std::collections::BTreeSet;
 use tera_code::{Steps, Tally};
 use tera_registry::FoundTemplate;
@@ -77,14 +77,15 @@ impl<O: Objects> TeraOver<O> {
             (ByName (registry_of O.engine self.now) name.now context.now) }
     {
         let mut steps = Steps::new();
-        self.render_template(name, context, &mut steps)
+        self.render_template(name, context, String::new(self.alloc), &mut steps)
     }
 
-    // The same, of which each instruction is counted.
+    // The same, which is written to this memory, and of which each instruction is counted.
     pub(crate) fn render_template<T: Tally>(
         &self,
         name: &str,
         context: &Context,
+        memory: String,
         steps: &mut Steps<T>,
     ) -> TeraResult<String>
         ensures means { GivesOneOf string_bytes result
@@ -94,7 +95,7 @@ impl<O: Objects> TeraOver<O> {
     {
         match self.templates.find(name) {
             Some(found) => {
-                let answer = self.render_found(found, found.root(), context, steps);
+                let answer = self.render_found(found, found.root(), context, memory, steps);
                 self.tell(answer, None)
             }
             None => Err(no_template(self.alloc, name)),
@@ -108,12 +109,15 @@ impl<O: Objects> TeraOver<O> {
         ends_with_one_of(found.name, self.suffixes.as_slice())
     }
 
-    /// Appends what `render` answers. After an error the vector is as before.
+    /// Appends what `render` answers. After an error the vector is as before. An empty one lends its memory to the rendering, and
+    /// may have none after an error.
     pub fn render_to(&self, name: &str, context: &Context, out: &mut Vec<u8>) -> TeraResult<()>
         ensures { AppendsOneOf result out.old.items out.new.items
             (ByName (registry_of O.engine self.now) name.now context.now) }
     {
-        let text = self.render(name, context)?;
+        let memory = lend_memory(self.alloc, out);
+        let mut steps = Steps::new();
+        let text = self.render_template(name, context, memory, &mut steps)?;
         append_text(text, out)?;
         Ok(())
     }

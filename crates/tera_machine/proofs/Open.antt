@@ -37,8 +37,9 @@ use Rattle.tera_machine.specs.Advance.{Advance, BodyWithin}
 use Rattle.tera_machine.specs.Bodies.{Entered, Stays}
 use Rattle.tera_machine.specs.OpenThings.{Nested}
 use Rattle.tera_machine.specs.Subject.{AreFrom, AreNumbered, IsLinked, IsOf, Belong, template_of, engine_of, here_of, place_at}
-use Rattle.tera_machine.specs.Together.{done}
-use Rattle.tera_machine.specs.Paths.{Stands, start_at}
+use Rattle.tera_machine.specs.declared.cursor.Cursor.{Cursor}
+use Rattle.tera_machine.specs.Together.{done, after_steps}
+use Rattle.tera_machine.specs.Paths.{Start, Stands}
 use Rattle.tera_machine.specs.Open.{AtAsk, Beginning, Came, HasOuter, PutsBack, Resumes, Running, Taken, TakesBefore, TakesRequested, TakesBody, Waits, machine_by, machine_again}
 use Rattle.tera_machine.proofs.Noting.{noted_none}
 use Rattle.tera_machine.proofs.Runs.{here_is, starts, one_left, not_stuck, small, went_on, skipped, skip_within, went_to, place_within, went_out, finished, effect_failed, at_request}
@@ -102,6 +103,16 @@ came_so : {O : Type 0} {most : ℕ} {w : World} (o : Beginning O) (rs : List Wai
 came_so {most = most} {w} o rs {r} {p1} {code1} {b1} {c1} {n1} {m} {m'} {code} {code'} e f x =
     subst (λ m'. (x : Waits most w m' code' r p1 code1 b1 c1 n1) × Came most w o rs m' code' x.began x.start x.first) (sym e) (subst (λ code'. (x : Waits most w m code' r p1 code1 b1 c1 n1) × Came most w o rs m code' x.began x.start x.first) (sym f) x)
 
+-- instructions that were done together led from one position to another, and as often they were counted
+pub record Led (here : Here) (code : Code) (first n ip at : ℕ) (c : Config) : Type 0 where
+  pub counted : first ≤ n
+  pub there : at < length code
+  pub config : Config
+  pub led : after_steps here code (n - first) ip c ≡ Some (at, config)
+
+pub led_of : {T : Type 0} {s : Start T} {cursor : Cursor T} → Stands s cursor → Led s.here s.cursor.chunk.now.code s.cursor.steps.now cursor.steps.now s.cursor.at cursor.at s.config
+led_of s = record { counted = s.counted; there = s.there; config = s.config; led = s.led }
+
 module _ {O : Type 0} (engine : O → Engine) {most : ℕ} {w : World} {o : Beginning O} (right : engine_of engine o.machine ≡ w.registry.engine) {rs : List Waiting} {m : VirtualMachine O} {code : Listing} {ip : ℕ} {b : OpenBodies} {c : Configuration} {n : ℕ} (g : Running most w o rs m code ip b c n) where
   -- where the body stands that runs, and what is fixed there
   abbrev place : Place
@@ -122,7 +133,7 @@ module _ {O : Type 0} (engine : O → Engine) {most : ℕ} {w : World} {o : Begi
     is_small = small g.progress same_here found
 
   -- instructions that were done together
-  module _ {n1 n2 at : ℕ} (one : n1 ≡ n + 1) (stands : Stands (start_at here ip n1 (config_of c)) code.code at n2) where
+  module _ {n1 n2 at : ℕ} (one : n1 ≡ n + 1) (stands : Led here code.code n1 n2 ip at (config_of c)) where
     -- what they did
     abbrev did : Did
     did = done here code.code (suc (n2 - n1)) ip (config_of c)

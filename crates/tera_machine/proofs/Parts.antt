@@ -22,16 +22,18 @@ use Rattle.tera_code.specs.Code.{Code}
 use Rattle.tera_code.specs.Printing.{puts, puts_up_to, closes_at, printing, printing_loop_at}
 use Rattle.tera_code.proofs.Parts.{both, opens_by, parts_end, puts_by}
 use Rattle.tera_meaning.specs.Here.{Here}
+use Rattle.tera_machine.specs.declared.cursor.Cursor.{Cursor}
 use Rattle.tera_machine.specs.declared.machine.Flow as declared
 use Rattle.tera_machine.specs.Config.{Config}
 use Rattle.tera_machine.specs.Flow.{On, Skip, To, flow_of}
 use Rattle.tera_machine.specs.Did.{Did, Goes, holding}
 use Rattle.tera_machine.specs.Loops.{begun_with, loop_started}
 use Rattle.tera_machine.specs.Effect.{effect, Effected}
-use Rattle.tera_machine.specs.Together.{done, done_at, after_steps, onward}
-use Rattle.tera_machine.specs.Paths.{Start, Stands, Breaks, start_at, topped}
+use Rattle.tera_machine.specs.Together.{done_at, after_steps, onward}
+use Rattle.tera_machine.specs.Paths.{Start, Stands, Breaks, done_since, start_at, topped}
 use Rattle.tera_machine.specs.Printing.{Before, Behind, PrintsItems, Turning, at_items, items_called, saying}
 use Rattle.tera_machine.proofs.Together.{done_behind, led_behind}
+use Rattle.tera_machine.proofs.Reaching.{Counts, continues_on}
 
 -- a name under which nothing is counted is none of a turn's counters
 uncounted_by : {A B : Type 0} (a0 a1 a2 a3 a4 : A) (v0 v1 v2 v3 v4 : B) (b0 b1 b2 b3 b4 : Bool) → cond b0 (Some a0) (cond b1 (Some a1) (cond b2 (Some a2) (cond b3 (Some a3) (cond b4 (Some a4) None)))) ≡ None → cond b0 (Some v0) (cond b1 (Some v1) (cond b2 (Some v2) (cond b3 (Some v3) (cond b4 (Some v4) None)))) ≡ None
@@ -79,43 +81,50 @@ module _ (name : Name) (code : Code) where
       let same : start + size - start ≡ size = omega arith in
       ap (λ k. puts_up_to name code k start) same ∙ p
 
-module _ {s : Start} {code : Code} {at n : ℕ} {c : Config} (b : Before s code at n c) {i : Instruction} (e : slice_get code at ≡ Some i) {n2 : ℕ} (m : n2 ≡ n + 1) where
+module _ {T : Type 0} {s : Start T} {from : Cursor T} {at : ℕ} {c : Config} (b : Before s from at c) {i : Instruction} (e : slice_get s.cursor.chunk.now.code at ≡ Some i) {to : Cursor T} (m : Counts from to 1) where
   -- the instruction that is handed out next
-  pub stands_before : Stands s code at n2
-  stands_before =
-      let k : suc (n - s.count) ≡ n2 - s.count = omega (arith, b.counted, m) in
-      record {
-        counted = omega (arith, b.counted, m);
-        there = slice_get_within code at i e;
-        config = c;
-        led = subst (λ j. after_steps s.here code j s.at s.config ≡ Some (at, c)) k b.led;
-      }
+  led_before : after_steps s.here s.cursor.chunk.now.code (to.steps.now - s.cursor.steps.now) s.cursor.at s.config ≡ Some (at, c)
+  led_before =
+      let k : suc (from.steps.now - s.cursor.steps.now) ≡ to.steps.now - s.cursor.steps.now = omega (arith, b.counted, m.count) in
+      subst (λ j. after_steps s.here s.cursor.chunk.now.code j s.cursor.at s.config ≡ Some (at, c)) k b.led
+
+  pub stands_before : to.at ≡ at → Stands s to
+  stands_before p = record {
+    continues = continues_on b.continues m;
+    counted = omega (arith, b.counted, m.count);
+    there = omega (arith, slice_get_within s.cursor.chunk.now.code at i e, p);
+    config = c;
+    led = led_before ∙ ap (λ q. Some (q, c)) (sym p);
+  }
 
   -- what it does
-  pub does_before : done s.here code (suc (n2 - s.count)) s.at s.config ≡ effect s.here (at + 1) i c
-  unfolding stands_before
-  does_before = done_behind s.here code (n2 - s.count) s.at s.config stands_before.led i e
+  pub does_before : done_since s to ≡ effect s.here (at + 1) i c
+  does_before = done_behind s.here s.cursor.chunk.now.code (to.steps.now - s.cursor.steps.now) s.cursor.at s.config led_before i e
 
-  pub breaks_before : (x : SeenError) → ((c2 : Config) → Effected (effect s.here (at + 1) i c) (Err x) c2) → Breaks s code n2 x
+  pub breaks_before : (x : SeenError) → ((c2 : Config) → Effected (effect s.here (at + 1) i c) (Err x) c2) → Breaks s to x
   breaks_before x h = λ c2. subst (λ d. Effected d (Err x) c2) (sym does_before) (h c2)
 
   -- where it leads
-  pub leads_before : {c2 : Config} (d : Did) (to : ℕ) → effect s.here (at + 1) i c ≡ d → onward at d ≡ Some (to, c2) → Before s code to n2 c2
-  leads_before d to f o =
-      record { counted = omega (arith, b.counted, m); led = led_behind s.here code (n2 - s.count) s.at s.config stands_before.led d (does_before ∙ f) ∙ o }
+  pub leads_before : {c2 : Config} (d : Did) (next : ℕ) → effect s.here (at + 1) i c ≡ d → onward at d ≡ Some (next, c2) → Before s to next c2
+  leads_before d next f o = record {
+    continues = continues_on b.continues m;
+    counted = omega (arith, b.counted, m.count);
+    led = led_behind s.here s.cursor.chunk.now.code (to.steps.now - s.cursor.steps.now) s.cursor.at s.config led_before d (does_before ∙ f) ∙ o;
+  }
 
 -- and where memory is refused nothing is said of it
-pub lacking_breaks : (s : Start) (code : Code) (n : ℕ) (e : SeenError) → Lacks e → Breaks s code n e
-lacking_breaks s code n None h = λ c. tt
-lacking_breaks s code n (Some fault) h = (let q : Some fault ≡ None = h in cc)
+pub lacking_breaks : {T : Type 0} (s : Start T) (cursor : Cursor T) (e : SeenError) → Lacks e → Breaks s cursor e
+lacking_breaks s cursor None h = λ c. tt
+lacking_breaks s cursor (Some fault) h = (let q : Some fault ≡ None = h in cc)
 
 -- behind the first instruction
-pub first_leads : {here : Here} {code : Code} {at n : ℕ} {c c2 : Config} (i : Instruction) → slice_get code at ≡ Some i → effect here (at + 1) i c ≡ Goes c2 On → Before (start_at here at n c) code (at + 1) n c2
-first_leads {here} {code} {at} {n} {c} {c2} i e f =
-    let none : 0 ≡ n - n = omega arith in
+pub first_leads : {T : Type 0} {here : Here} {cursor : Cursor T} {c c2 : Config} (i : Instruction) → here.file ≡ cursor.chunk.now.file → slice_get cursor.chunk.now.code cursor.at ≡ Some i → effect here (cursor.at + 1) i c ≡ Goes c2 On → Before (start_at here cursor c) cursor (cursor.at + 1) c2
+first_leads {here = here} {cursor} {c} {c2} i file e f =
+    let none : 0 ≡ cursor.steps.now - cursor.steps.now = omega arith in
     record {
+      continues = record { chunk = refl; steps = refl; file = file };
       counted = omega arith;
-      led = subst (λ k. after_steps here code (suc k) at c ≡ Some (at + 1, c2)) none (ap (onward at) (ap (λ o. done_at here at o c) e ∙ f));
+      led = subst (λ k. after_steps here cursor.chunk.now.code (suc k) cursor.at c ≡ Some (cursor.at + 1, c2)) none (ap (onward cursor.at) (ap (λ o. done_at here cursor.at o c) e ∙ f));
     }
 
 -- the loop is opened over items of which there are some
@@ -126,7 +135,7 @@ opened_over here start size name counts (v ∷ vs) a c some e =
     ∙ ap (λ is. begun_with start size (placed here.file (turns_over (items_called name counts) (Some (unkeyed is))) a.span) c) (list_of_vals (v ∷ vs))
 
 -- a turn ends, and the next one begins, or the loop is over
-pub turning_on : {s : Start} {code : Code} {start size n n2 : ℕ} (h : Heading) (turns index : ℕ) (v : Val) (vs : List Val) (c : Config) → slice_get code (start + size) ≡ Some instruction.NextTurn → n2 ≡ n + 1 → Before s code (start + size) n (at_items h turns index start size (v ∷ vs) c) → Turning s code start size n2 h turns (suc index) vs c
+pub turning_on : {T : Type 0} {s : Start T} {from to : Cursor T} {start size : ℕ} (h : Heading) (turns index : ℕ) (v : Val) (vs : List Val) (c : Config) → slice_get s.cursor.chunk.now.code (start + size) ≡ Some instruction.NextTurn → Counts from to 1 → Before s from (start + size) (at_items h turns index start size (v ∷ vs) c) → Turning s to start size h turns (suc index) vs c
 turning_on {start = start} {size} h turns index v [] c e m b = record {
   last = turn h turns index (None, v);
   before = leads_before b e m (Goes (at_items h turns index start size (v ∷ []) c) On) (start + size + 1) refl refl;
@@ -136,12 +145,12 @@ turning_on {start = start} {size} h turns index v (w ∷ vs) c e m b =
     leads_before b e m (Goes (at_items h turns (suc index) start size (w ∷ vs) c) (To start 0)) start refl (ap (λ q. Some (q, at_items h turns (suc index) start size (w ∷ vs) c)) same)
 
 -- where no item is left the loop is over
-pub turning_over : {s : Start} {code : Code} {start size n : ℕ} (h : Heading) (turns index : ℕ) (vs : List Val) (c : Config) → length vs ≤ index → Turning s code start size n h turns index (drop index vs) c → Behind s code start size n c
-turning_over {s} {code} {start} {size} {n} h turns index vs c all t =
-    subst (λ left. Turning s code start size n h turns index left c) (drop_all index vs all) t
+pub turning_over : {T : Type 0} {s : Start T} {cursor : Cursor T} {start size : ℕ} (h : Heading) (turns index : ℕ) (vs : List Val) (c : Config) → length vs ≤ index → Turning s cursor start size h turns index (drop index vs) c → Behind s cursor start size c
+turning_over {s = s} {cursor} {start} {size} h turns index vs c all t =
+    subst (λ left. Turning s cursor start size h turns index left c) (drop_all index vs all) t
 
 -- the loop ends
-pub loop_closes : {s : Start} {code : Code} {start size n n2 : ℕ} {c : Config} (b : Behind s code start size n c) (skip : ℕ) (e : slice_get code (start + size + 1) ≡ Some (instruction.EndLoop skip)) (m : n2 ≡ n + 1) → done s.here code (suc (n2 - s.count)) s.at s.config ≡ Goes c (Skip skip)
+pub loop_closes : {T : Type 0} {s : Start T} {from to : Cursor T} {start size : ℕ} {c : Config} (b : Behind s from start size c) (skip : ℕ) (e : slice_get s.cursor.chunk.now.code (start + size + 1) ≡ Some (instruction.EndLoop skip)) (m : Counts from to 1) → done_since s to ≡ Goes c (Skip skip)
 loop_closes b skip e m = does_before b.before e m
 
 not_some : {A : Type 0} (o : Option A) → is_some o ≡ false → o ≡ None
@@ -177,11 +186,11 @@ closed_by code at i e s n =
     true≢false (sym e ∙ ap (λ o. is_some (option_and_then ended_loop o)) s ∙ ap (λ (o : Option ℕ). is_some o) n)
 
 -- the loop is begun
-pub loop_begins : (here : Here) (code : Code) (at n size : ℕ) (i : Instruction) (key : Option Name) (name : Name) (counts : Bool) (m : ℕ) (vs : List Val) (a : Evaluated) (c : Config) → slice_get code at ≡ Some i → i ≡ instruction.StartLoop key name counts m → key ≡ None → m ≡ size → vs ≢ [] → a.value ≡ array (vals vs) → Before (start_at here at n (topped a c)) code (at + 1) n (at_items (items_called name counts) (length (unkeyed vs)) 0 (at + 1) size vs c)
-loop_begins here code at n size i key name counts m vs a c e f k z some v =
-    first_leads i e (ap (λ j. effect here (at + 1) j (topped a c)) f
-    ∙ ap₂ (λ x y. effect here (at + 1) (instruction.StartLoop x name counts y) (topped a c)) k z
-    ∙ opened_over here (at + 1) size name counts vs a c some v)
+pub loop_begins : {T : Type 0} (here : Here) (cursor : Cursor T) (size : ℕ) (i : Instruction) (key : Option Name) (name : Name) (counts : Bool) (m : ℕ) (vs : List Val) (a : Evaluated) (c : Config) → here.file ≡ cursor.chunk.now.file → slice_get cursor.chunk.now.code cursor.at ≡ Some i → i ≡ instruction.StartLoop key name counts m → key ≡ None → m ≡ size → vs ≢ [] → a.value ≡ array (vals vs) → Before (start_at here cursor (topped a c)) cursor (cursor.at + 1) (at_items (items_called name counts) (length (unkeyed vs)) 0 (cursor.at + 1) size vs c)
+loop_begins here cursor size i key name counts m vs a c file e f k z some v =
+    first_leads i file e (ap (λ j. effect here (cursor.at + 1) j (topped a c)) f
+    ∙ ap₂ (λ x y. effect here (cursor.at + 1) (instruction.StartLoop x name counts y) (topped a c)) k z
+    ∙ opened_over here (cursor.at + 1) size name counts vs a c some v)
 
 -- what lies on top of the operands of a configuration
 pub as_topped : (c : Config) (a : Evaluated) (rest : List Evaluated) → c.operands ≡ a ∷ rest → topped a (saying c.run.text (holding rest c)) ≡ c

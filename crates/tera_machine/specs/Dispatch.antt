@@ -3,10 +3,9 @@ use Rattle.std.specs.Prelude.{◌≡◌, ℕ, ◌+◌, ◌<◌, ◌≤◌, ◌^�
 use Rattle.tera_errors.specs.Answer.{SeenError}
 use Rattle.tera_code.specs.declared.instruction.Instruction.{Instruction}
 use Rattle.tera_code.specs.declared.instruction.Instruction.TheVariants.{WriteText, WriteName, NextTurn, PopJumpIfFalse, Jump, LoadName, Binary, WriteTop, LoadAttribute, Store, LoadConst, JumpIfFalseOrPop, JumpIfTrueOrPop, Not, TakeBlock, TakeInclude, TakeSuper, TakeComponent, StartLoop, EndLoop}
-use Rattle.tera_code.specs.Code.{Code}
-use Rattle.tera_code.specs.Listing.{Listing}
 use Rattle.tera_state.specs.Engine.{Engine}
 use Rattle.tera_machine.specs.declared.configuration.Configuration.{Configuration}
+use Rattle.tera_machine.specs.declared.cursor.Cursor.{Cursor}
 use Rattle.tera_machine.specs.declared.machine.Flow as declared
 use Rattle.tera_machine.specs.declared.machine.VirtualMachine.{VirtualMachine}
 use Rattle.tera_machine.specs.Config.{config_of}
@@ -15,23 +14,24 @@ use Rattle.tera_machine.specs.Paths.{Start, Stands, start_at, done_since}
 use Rattle.tera_machine.specs.Subject.{here_of}
 
 -- a position in code that a `usize` can count
-pub record IsPosition (code : Code) (at : ℕ) : Type 0 where
-  pub few : length code < 2 ^ 64
-  pub there : at < length code
+pub record IsPosition {T : Type 0} (cursor : Cursor T) : Type 0 where
+  pub few : length cursor.chunk.now.code < 2 ^ 64
+  pub there : cursor.at < length cursor.chunk.now.code
 
 -- this instruction stands there
-pub record HasInstruction (code : Code) (at : ℕ) (i : Instruction) : Type 0 where
-  pub there : slice_get code at ≡ Some i
-  pub few : length code < 2 ^ 64
+pub record HasInstruction {T : Type 0} (cursor : Cursor T) (i : Instruction) : Type 0 where
+  pub there : slice_get cursor.chunk.now.code cursor.at ≡ Some i
+  pub few : length cursor.chunk.now.code < 2 ^ 64
 
 -- this instruction stands there, the operands that it needs are there, and it jumps no farther than
 -- a `usize` can count
-pub record CanRun {O : Type 0} (engine : O → Engine) (m : VirtualMachine O) (chunk : Listing)
-    (at : ℕ) (i : Instruction) (c : Configuration) : Type 0 where
-  pub there : slice_get chunk.code at ≡ Some i
-  pub few : length chunk.code < 2 ^ 64
-  pub ready : IsReady (effect (here_of engine m chunk.file c) (at + 1) i) c
-  pub small : IsSmall (effect (here_of engine m chunk.file c) (at + 1) i (config_of c))
+pub record CanRun {O T : Type 0} (engine : O → Engine) (m : VirtualMachine O) (cursor : Cursor T)
+    (i : Instruction) (c : Configuration) : Type 0 where
+  pub there : slice_get cursor.chunk.now.code cursor.at ≡ Some i
+  pub few : length cursor.chunk.now.code < 2 ^ 64
+  pub ready : IsReady (effect (here_of engine m cursor.chunk.now.file c) (cursor.at + 1) i) c
+  pub small : IsSmall
+      (effect (here_of engine m cursor.chunk.now.file c) (cursor.at + 1) i (config_of c))
 
 -- the stage at which the dispatch asks for an instruction: `run_instruction` is the first one, 0,
 -- and what it leaves comes to the next one
@@ -68,16 +68,17 @@ stage_of other = 6
 abbrev pub IsLeft : ℕ → Instruction → Type 0
 IsLeft stage i = stage ≤ stage_of i
 
--- what began so has come to the instruction at this position, by this count, and that did this
-pub record HasRunFrom (s : Start) (code : Code) (before : Configuration)
-    (result : Result declared.Flow SeenError) (at n : ℕ) (after : Configuration) : Type 0 where
-  pub stands : Stands s code at n
-  pub does : Does (λ c. done_since s code n) before result after
+-- what began so has come to the instruction at this cursor, and that did this
+pub record HasRunFrom {T : Type 0} (s : Start T) (before : Configuration)
+    (result : Result declared.Flow SeenError) (cursor : Cursor T) (after : Configuration)
+    : Type 0 where
+  pub stands : Stands s cursor
+  pub does : Does (λ c. done_since s cursor) before result after
 
--- the machine ran the instruction at the first position, and maybe some after it, up to the one at
--- the second position; the two counts and configurations are those before and after
-abbrev pub HasRun : {O : Type 0} → (O → Engine) → VirtualMachine O → Listing → ℕ → ℕ → Configuration
-    → Result declared.Flow SeenError → ℕ → ℕ → Configuration → Type 0
-HasRun engine m chunk at n before result at2 n2 after =
-    HasRunFrom (start_at (here_of engine m chunk.file before) at n (config_of before)) chunk.code
-    before result at2 n2 after
+-- the machine ran the instruction at the first cursor, and maybe some after it, up to the one at the
+-- second cursor; the two configurations are those before and after
+abbrev pub HasRun : {O T : Type 0} → (O → Engine) → VirtualMachine O → Cursor T → Configuration
+    → Result declared.Flow SeenError → Cursor T → Configuration → Type 0
+HasRun engine m cursor before result cursor2 after =
+    HasRunFrom (start_at (here_of engine m cursor.chunk.now.file before) cursor (config_of before))
+    before result cursor2 after

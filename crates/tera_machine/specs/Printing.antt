@@ -11,12 +11,13 @@ use Rattle.tera_code.specs.Code.{Code}
 use Rattle.tera_code.specs.Printing.{puts_up_to}
 use Rattle.tera_state.specs.Engine.{Engine}
 use Rattle.tera_meaning.specs.Here.{Here}
+use Rattle.tera_machine.specs.declared.cursor.Cursor.{Cursor}
 use Rattle.tera_machine.specs.declared.machine.VirtualMachine.{VirtualMachine}
 use Rattle.tera_machine.specs.Config.{Config}
 use Rattle.tera_machine.specs.Did.{with_vars}
 use Rattle.tera_machine.specs.Subject.{engine_of}
 use Rattle.tera_machine.specs.Together.{after_steps}
-use Rattle.tera_machine.specs.Paths.{Start}
+use Rattle.tera_machine.specs.Paths.{Start, Continues}
 
 -- what is fixed where the machine runs a body of this file
 abbrev pub IsAt : {O : Type 0} → (O → Engine) → VirtualMachine O → Name → Here → Type 0
@@ -28,9 +29,11 @@ abbrev pub saying : Text → Config → Config
 saying text c = record c { run = record c.run { text = text } }
 
 -- in front of the instruction at a position, to which all led that were handed out
-pub record Before (s : Start) (code : Code) (at n : ℕ) (c : Config) : Type 0 where
-  pub counted : s.count ≤ n
-  pub led : after_steps s.here code (suc (n - s.count)) s.at s.config ≡ Some (at, c)
+pub record Before {T : Type 0} (s : Start T) (cursor : Cursor T) (at : ℕ) (c : Config) : Type 0 where
+  pub continues : Continues s cursor
+  pub counted : s.cursor.steps.now ≤ cursor.steps.now
+  pub led : after_steps s.here s.cursor.chunk.now.code
+      (suc (cursor.steps.now - s.cursor.steps.now)) s.cursor.at s.config ≡ Some (at, c)
 
 -- the body of such a loop, which starts at this position
 pub record PrintsItems (code : Code) (start size : ℕ) (name : Name) : Type 0 where
@@ -57,12 +60,14 @@ at_items h turns index start size (v ∷ vs) c =
     in_loop (turn h turns index (None, v)) (turns_from h turns (suc index) (unkeyed vs)) start size c
 
 -- behind the end of the last turn
-pub record Behind (s : Start) (code : Code) (start size n : ℕ) (c : Config) : Type 0 where
+pub record Behind {T : Type 0} (s : Start T) (cursor : Cursor T) (start size : ℕ) (c : Config)
+    : Type 0 where
   pub last : Turn
-  pub before : Before s code (start + size + 1) n (in_loop last [] start size c)
+  pub before : Before s cursor (start + size + 1) (in_loop last [] start size c)
 
 -- in front of the turns of these items, or behind the loop, where none is left
-abbrev pub Turning : Start → Code → ℕ → ℕ → ℕ → Heading → ℕ → ℕ → List Val → Config → Type 0
-Turning s code start size n h turns index [] c = Behind s code start size n c
-Turning s code start size n h turns index (v ∷ vs) c =
-    Before s code start n (at_items h turns index start size (v ∷ vs) c)
+abbrev pub Turning : {T : Type 0} → Start T → Cursor T → ℕ → ℕ → Heading → ℕ → ℕ → List Val
+    → Config → Type 0
+Turning s cursor start size h turns index [] c = Behind s cursor start size c
+Turning s cursor start size h turns index (v ∷ vs) c =
+    Before s cursor start (at_items h turns index start size (v ∷ vs) c)

@@ -28,11 +28,19 @@ impl<'c> Configuration<'c> {
         ensures starts { config_of result ≡ starting (begun (variables_of scopes.entry)) }
         ensures around { around_of result.scopes ≡ around_of scopes.entry }
     {
+        Configuration::with_memory(alloc, scopes, String::new(alloc))
+    }
+
+    /// The same, where the text is written to the memory of this one, which is dropped; takes no memory.
+    pub fn with_memory(alloc: Global, scopes: Scopes<'c>, memory: String) -> Configuration<'c>
+        ensures starts { config_of result ≡ starting (begun (variables_of scopes.entry)) }
+        ensures around { around_of result.scopes ≡ around_of scopes.entry }
+    {
         Configuration {
             alloc,
             operands: Stack::new(alloc),
             scopes,
-            texts: RenderedText::new(alloc),
+            texts: RenderedText::new(alloc, memory),
             places: Stack::new(alloc),
             ended: EndedBlocks::new(),
         }

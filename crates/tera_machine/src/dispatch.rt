@@ -1,4 +1,4 @@
-// The dispatch: runs the instruction at a position of a chunk. Each function asks for some instructions and leaves any other to the
+// The dispatch: runs the instruction at a cursor. Each function asks for some instructions and leaves any other to the
 // next function; what is run most is asked for first. They are functions of their own because the locals of a function are zeroed
 // where it begins, also where it is inlined: an instruction pays only for the questions that were asked before it.
 ghost use Rattle.std.specs.Prelude.{◌≡◌, ◌∷◌, OnOk};
@@ -11,18 +11,19 @@ ghost use Rattle.tera_machine.specs.Subject.{here_of};
 ghost use Rattle.tera_state.specs.Prelude.{around_of};
 
 use crate::configuration::Configuration;
+use crate::cursor::Cursor;
 use crate::instructions::{WriteResult, continue_after, continue_if_written};
 use crate::machine::{Flow, FlowResult, VirtualMachine};
 use crate::requests::Request;
 use std::alloc::{AllocError, Global};
-use tera_code::{Chunk, LentInstruction, Steps, Tally};
+use tera_code::{LentInstruction, Tally};
 use tera_operators::Operand;
 use tera_state::{Objects, Stack};
 use tera_values::{Error, Name, Shape, Span, Value};
 
 impl<'c> Configuration<'c> {
-    /// Runs the instruction at a position, and those after it that are run together with it. The position becomes that of the last
-    /// of them. A budget that is spent ends the run, as want of memory does.
+    /// Runs the instruction at the cursor, and those after it that are run together with it. The cursor moves to the last of
+    /// them. A budget that is spent ends the run, as want of memory does.
     ///
     /// What is asked for here needs no more of the instruction than its parts. All else stays out of the loop that calls this, so
     /// that the frame of that loop is small.
@@ -30,23 +31,20 @@ impl<'c> Configuration<'c> {
     pub(crate) fn run_instruction<'f, O: Objects, T: Tally>(
         &mut self,
         machine: &VirtualMachine<'_, O>,
-        chunk: &Chunk,
-        at: &mut usize,
+        cursor: &mut Cursor<'_, '_, T>,
         instruction: &LentInstruction<'f>,
-        steps: &mut Steps<T>,
     ) -> FlowResult<'f>
-        requires { CanRun O.engine machine.now chunk.now at.old instruction.now self.old }
-        ensures { HasRun O.engine machine.now chunk.now at.old steps.old self.old
-            result at.new steps.new self.new }
+        requires { CanRun O.engine machine.now cursor.old instruction.now self.old }
+        ensures { HasRun O.engine machine.now cursor.old self.old result cursor.new self.new }
     {
-        if steps.are_spent() {
+        if cursor.steps.are_spent() {
             return Err(Error::out_of_memory());
         }
         if let Some(text) = instruction.as_text() {
             return continue_after(self.write_text(text));
         }
         if let Some((name, span)) = instruction.as_written_name() {
-            return self.write_name_turn_first(machine, chunk.file(), name, span);
+            return self.write_name_turn_first(machine, cursor.chunk.file(), name, span);
         }
         if instruction.is_next_turn() {
             return self.next_turn();
@@ -58,9 +56,9 @@ impl<'c> Configuration<'c> {
             return Ok(Flow::Skip(skip));
         }
         if let Some((number, span)) = instruction.as_integer() {
-            return self.load_integer_and_apply(machine, chunk, at, number, span, steps);
+            return self.load_integer_and_apply(machine, cursor, number, span);
         }
-        self.run_name_or_other(machine, chunk, at, instruction, steps)
+        self.run_name_or_other(machine, cursor, instruction)
     }
 
     /// Runs an instruction that loads a name, and leaves any other to `run_operation`. From here on a flow is handed out in memory,
@@ -69,26 +67,23 @@ impl<'c> Configuration<'c> {
     fn run_name_or_other<'f, O: Objects, T: Tally>(
         &mut self,
         machine: &VirtualMachine<'_, O>,
-        chunk: &Chunk,
-        at: &mut usize,
+        cursor: &mut Cursor<'_, '_, T>,
         instruction: &LentInstruction<'f>,
-        steps: &mut Steps<T>,
     ) -> FlowResult<'f>
-        requires can { CanRun O.engine machine.now chunk.now at.old instruction.now self.old }
+        requires can { CanRun O.engine machine.now cursor.old instruction.now self.old }
         requires left { IsLeft 1 instruction.now }
-        ensures { HasRun O.engine machine.now chunk.now at.old steps.old self.old
-            result at.new steps.new self.new }
+        ensures { HasRun O.engine machine.now cursor.old self.old result cursor.new self.new }
     {
         match instruction.as_loaded_name() {
-            Some((name, span)) if chunk.reads_on_at(*at) => {
-                self.run_name_ahead(machine, chunk, at, name, span, steps)
+            Some((name, span)) if cursor.chunk.reads_on_at(cursor.at) => {
+                self.run_name_ahead(machine, cursor, name, span)
             }
             Some((name, span)) => continue_after(self.load_name_turn_first(
                 machine.alloc,
                 name,
                 span,
             )),
-            None => self.run_operation(machine, chunk, at, instruction, steps),
+            None => self.run_operation(machine, cursor, instruction),
         }
     }
 
@@ -98,29 +93,32 @@ impl<'c> Configuration<'c> {
     fn run_operation<'f, O: Objects, T: Tally>(
         &mut self,
         machine: &VirtualMachine<'_, O>,
-        chunk: &Chunk,
-        at: &mut usize,
+        cursor: &mut Cursor<'_, '_, T>,
         instruction: &LentInstruction<'f>,
-        steps: &mut Steps<T>,
     ) -> FlowResult<'f>
-        requires can { CanRun O.engine machine.now chunk.now at.old instruction.now self.old }
+        requires can { CanRun O.engine machine.now cursor.old instruction.now self.old }
         requires left { IsLeft 2 instruction.now }
-        ensures { HasRun O.engine machine.now chunk.now at.old steps.old self.old
-            result at.new steps.new self.new }
+        ensures { HasRun O.engine machine.now cursor.old self.old result cursor.new self.new }
     {
         if let Some((operator, span)) = instruction.as_binary() {
-            return self.operate(machine.alloc, chunk.file(), operator, span);
+            return self.operate(machine.alloc, cursor.chunk.file(), operator, span);
         }
         if instruction.is_write_top() {
-            return self.write_top(machine, chunk.file());
+            return self.write_top(machine, cursor.chunk.file());
         }
         if let Some((name, optional, span)) = instruction.as_attribute() {
-            return self.load_attribute(machine.alloc, chunk.file(), name.as_str(), optional, span);
+            return self.load_attribute(
+                machine.alloc,
+                cursor.chunk.file(),
+                name.as_str(),
+                optional,
+                span,
+            );
         }
         if let Some((name, is_global)) = instruction.as_store() {
             return continue_after(self.store(machine.alloc, name, is_global));
         }
-        self.run_constant_or_built_in(machine, chunk, at, instruction, steps)
+        self.run_constant_or_built_in(machine, cursor, instruction)
     }
 
     /// Runs a constant, a jump of a choice, a negation, or a filter or a test that is built in, and leaves any other instruction to
@@ -129,15 +127,12 @@ impl<'c> Configuration<'c> {
     fn run_constant_or_built_in<'f, O: Objects, T: Tally>(
         &mut self,
         machine: &VirtualMachine<'_, O>,
-        chunk: &Chunk,
-        at: &mut usize,
+        cursor: &mut Cursor<'_, '_, T>,
         instruction: &LentInstruction<'f>,
-        steps: &mut Steps<T>,
     ) -> FlowResult<'f>
-        requires can { CanRun O.engine machine.now chunk.now at.old instruction.now self.old }
+        requires can { CanRun O.engine machine.now cursor.old instruction.now self.old }
         requires left { IsLeft 3 instruction.now }
-        ensures { HasRun O.engine machine.now chunk.now at.old steps.old self.old
-            result at.new steps.new self.new }
+        ensures { HasRun O.engine machine.now cursor.old self.old result cursor.new self.new }
     {
         if let Some((constant, span)) = instruction.as_constant() {
             return self.load_constant(&constant, span);
@@ -152,12 +147,12 @@ impl<'c> Configuration<'c> {
             return self.negate_truth();
         }
         if let Some((filter, name, names, span)) = instruction.as_built_in_filter() {
-            return self.apply_filter(machine, chunk.file(), filter, &name, &names, span);
+            return self.apply_filter(machine, cursor.chunk.file(), filter, &name, &names, span);
         }
         if let Some((test, name, names, span)) = instruction.as_built_in_test() {
-            return self.apply_test(machine, chunk.file(), test, &name, &names, span);
+            return self.apply_test(machine, cursor.chunk.file(), test, &name, &names, span);
         }
-        self.run_request(machine, chunk, at, instruction, steps)
+        self.run_request(machine, cursor, instruction)
     }
 
     /// Hands out the request of an instruction that takes another body, and leaves any other to `run_loop_or_rare`.
@@ -165,15 +160,12 @@ impl<'c> Configuration<'c> {
     fn run_request<'f, O: Objects, T: Tally>(
         &mut self,
         machine: &VirtualMachine<'_, O>,
-        chunk: &Chunk,
-        at: &mut usize,
+        cursor: &mut Cursor<'_, '_, T>,
         instruction: &LentInstruction<'f>,
-        steps: &mut Steps<T>,
     ) -> FlowResult<'f>
-        requires can { CanRun O.engine machine.now chunk.now at.old instruction.now self.old }
+        requires can { CanRun O.engine machine.now cursor.old instruction.now self.old }
         requires left { IsLeft 4 instruction.now }
-        ensures { HasRun O.engine machine.now chunk.now at.old steps.old self.old
-            result at.new steps.new self.new }
+        ensures { HasRun O.engine machine.now cursor.old self.old result cursor.new self.new }
     {
         if let Some((name, span)) = instruction.as_block() {
             return Ok(Flow::Call(Request::Block(name, span)));
@@ -185,9 +177,16 @@ impl<'c> Configuration<'c> {
             return self.request_super(arguments, span);
         }
         if let Some((name, keys, has_body, span)) = instruction.as_component() {
-            return self.request_component(machine, chunk.file(), name, &keys, has_body, span);
+            return self.request_component(
+                machine,
+                cursor.chunk.file(),
+                name,
+                &keys,
+                has_body,
+                span,
+            );
         }
-        self.run_loop_or_rare(machine, chunk, at, instruction, steps)
+        self.run_loop_or_rare(machine, cursor, instruction)
     }
 
     /// Runs the start or the end of a loop, which a table has in each row, and unpacks any other instruction whole. This stays a

@@ -14,10 +14,11 @@ ghost use Rattle.tera_machine.specs.Dispatch.{HasInstruction, HasRun};
 ghost use Rattle.tera_machine.specs.Paths.{truth_of};
 
 use crate::configuration::Configuration;
+use crate::cursor::Cursor;
 use crate::instructions::continue_after;
 use crate::machine::{FlowResult, VirtualMachine};
 use std::alloc::Global;
-use tera_code::{Chunk, IntegerComparison, Steps, Tally};
+use tera_code::{IntegerComparison, Tally};
 use tera_operators::Operand;
 use tera_state::Objects;
 use tera_syntax_tree::BinaryOperator;
@@ -30,20 +31,17 @@ impl<'c> Configuration<'c> {
     pub(crate) fn run_name_ahead<'f, O: Objects, T: Tally>(
         &mut self,
         machine: &VirtualMachine<'_, O>,
-        chunk: &Chunk,
-        at: &mut usize,
+        cursor: &mut Cursor<'_, '_, T>,
         name: &Name,
         span: Span,
-        steps: &mut Steps<T>,
     ) -> FlowResult<'f>
-        requires { HasInstruction chunk.now.code at.old (instruction.LoadName name.now span) }
-        ensures { HasRun O.engine machine.now chunk.now at.old steps.old self.old
-            result at.new steps.new self.new }
+        requires { HasInstruction cursor.old (instruction.LoadName name.now span) }
+        ensures { HasRun O.engine machine.now cursor.old self.old result cursor.new self.new }
     {
-        if chunk.loads_integer_at(*at + 1) {
-            self.run_name_before_integer(machine, chunk, at, name, span, steps)
+        if cursor.chunk.loads_integer_at(cursor.at + 1) {
+            self.run_name_before_integer(machine, cursor, name, span)
         } else {
-            self.run_path(machine, chunk, at, name, span, steps)
+            self.run_path(machine, cursor, name, span)
         }
     }
 
@@ -53,26 +51,26 @@ impl<'c> Configuration<'c> {
     pub(crate) fn run_name_before_integer<'f, O: Objects, T: Tally>(
         &mut self,
         machine: &VirtualMachine<'_, O>,
-        chunk: &Chunk,
-        at: &mut usize,
+        cursor: &mut Cursor<'_, '_, T>,
         name: &Name,
         span: Span,
-        steps: &mut Steps<T>,
     ) -> FlowResult<'f>
-        requires { HasInstruction chunk.now.code at.old (instruction.LoadName name.now span) }
-        ensures { HasRun O.engine machine.now chunk.now at.old steps.old self.old
-            result at.new steps.new self.new }
+        requires { HasInstruction cursor.old (instruction.LoadName name.now span) }
+        ensures { HasRun O.engine machine.now cursor.old self.old result cursor.new self.new }
     {
         match self.integer_of(name) {
-            Some(number) => match chunk.integer_comparison_at(*at + 1, steps) {
+            Some(number) => match cursor
+                .chunk
+                .integer_comparison_at(cursor.at + 1, cursor.steps)
+            {
                 Some(comparison) => {
-                    *at += 2;
+                    cursor.at += 2;
                     let truth = compare_integer(number, span, &comparison);
-                    self.test_or_push(chunk, at, truth, steps)
+                    self.test_or_push(cursor, truth)
                 }
-                None => self.run_path(machine, chunk, at, name, span, steps),
+                None => self.run_path(machine, cursor, name, span),
             },
-            None => self.run_path(machine, chunk, at, name, span, steps),
+            None => self.run_path(machine, cursor, name, span),
         }
     }
 
@@ -94,24 +92,27 @@ impl<'c> Configuration<'c> {
     pub(crate) fn load_integer_and_apply<'f, O: Objects, T: Tally>(
         &mut self,
         machine: &VirtualMachine<'_, O>,
-        chunk: &Chunk,
-        at: &mut usize,
+        cursor: &mut Cursor<'_, '_, T>,
         number: i64,
         span: Span,
-        steps: &mut Steps<T>,
     ) -> FlowResult<'f>
-        requires { HasInstruction chunk.now.code at.old
-            (instruction.LoadConst (val.int number) span) }
-        ensures { HasRun O.engine machine.now chunk.now at.old steps.old self.old
-            result at.new steps.new self.new }
+        requires { HasInstruction cursor.old (instruction.LoadConst (val.int number) span) }
+        ensures { HasRun O.engine machine.now cursor.old self.old result cursor.new self.new }
     {
         if self.operands.is_empty() {
             return continue_after(self.load_integer(number, span));
         }
-        match chunk.operator_at(*at + 1, steps) {
+        match cursor.chunk.operator_at(cursor.at + 1, cursor.steps) {
             Some((operator, whole)) => {
-                *at += 1;
-                self.operate_with(machine.alloc, chunk.file(), operator, number, span, whole)
+                cursor.at += 1;
+                self.operate_with(
+                    machine.alloc,
+                    cursor.chunk.file(),
+                    operator,
+                    number,
+                    span,
+                    whole,
+                )
             }
             None => continue_after(self.load_integer(number, span)),
         }

@@ -8,6 +8,7 @@ mod calls;
 mod captures;
 pub mod components;
 pub mod configuration;
+mod cursor;
 mod dispatch;
 pub mod ended_blocks;
 pub mod includes;

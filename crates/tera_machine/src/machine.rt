@@ -17,6 +17,7 @@ use crate::block_bodies::{BodyEnd, EnteredBlock, ResumePoint, Waiting};
 use crate::call_notes::with_call_notes;
 use crate::components::{ComponentBody, OneOffComponents};
 use crate::configuration::Configuration;
+use crate::cursor::Cursor;
 use crate::open_bodies::OpenBodies;
 use crate::requests::{BlockRequest, ComponentRequest, IncludeRequest, Request};
 use crate::wanted_block::WantedBlock;
@@ -274,40 +275,37 @@ impl<'t, O: Objects> VirtualMachine<'t, O> {
     {
         let mut machine = *self;
         let mut body = first;
-        let mut chunk = body.chunk();
-        let mut at = 0;
+        let mut cursor = Cursor {
+            chunk: body.chunk(),
+            at: 0,
+            steps,
+        };
         'bodies: loop {
-            let Some(instruction) = chunk.get(at, steps) else {
+            let chunk = cursor.chunk;
+            let Some(instruction) = chunk.get(cursor.at, cursor.steps) else {
                 if open.len() == 0 {
                     return Ok(());
                 }
                 match machine.leave(open, blocks, configuration) {
                     Ok(behind) => {
                         body = behind.body;
-                        at = behind.at;
+                        cursor.at = behind.at;
                     }
                     Err(error) => return Err(error),
                 }
-                chunk = body.chunk();
+                cursor.chunk = body.chunk();
                 continue;
             };
-            let mut last = at;
-            let flow = match configuration.run_instruction(
-                &machine,
-                chunk,
-                &mut last,
-                &instruction,
-                steps,
-            ) {
+            let flow = match configuration.run_instruction(&machine, &mut cursor, &instruction) {
                 Ok(flow) => flow,
                 Err(error) => return Err(error),
             };
-            let next = last + 1;
+            let next = cursor.at + 1;
             match flow {
-                Flow::On => at = next,
-                Flow::Skip(count) => at = next + count,
-                Flow::To(place, count) => at = place + count,
-                Flow::Out => at = chunk.len(),
+                Flow::On => cursor.at = next,
+                Flow::Skip(count) => cursor.at = next + count,
+                Flow::To(place, count) => cursor.at = place + count,
+                Flow::Out => cursor.at = chunk.len(),
                 Flow::Call(request) => {
                     match machine.start_body::<M>(
                         body,
@@ -320,8 +318,8 @@ impl<'t, O: Objects> VirtualMachine<'t, O> {
                         Ok(inner) => body = inner,
                         Err(error) => return Err(error),
                     }
-                    chunk = body.chunk();
-                    at = 0;
+                    cursor.chunk = body.chunk();
+                    cursor.at = 0;
                 }
             }
         }

@@ -16,11 +16,12 @@ ghost use Rattle.tera_machine.specs.Dispatch.{HasInstruction, HasRun, HasRunFrom
 ghost use Rattle.tera_machine.specs.Paths.{Start, Stands, Comes, Reaches, Breaks, done_since, topped, truth_of};
 
 use crate::configuration::Configuration;
+use crate::cursor::Cursor;
 use crate::instructions::undefined_fault;
 use crate::machine::{Flow, FlowResult, VirtualMachine};
 use crate::rendered_text::RenderedText;
 use std::alloc::Global;
-use tera_code::{Chunk, Comparison, Steps, Tally};
+use tera_code::{Comparison, Tally};
 use tera_operators::{LentOperand, Operand};
 use tera_state::{FoundValue, Objects};
 use tera_values::{Name, Span, TeraResult};
@@ -40,58 +41,52 @@ fn lent_operand<'a>(found: &FoundValue<'a>, span: Span) -> Option<LentOperand<'a
     }
 }
 
-/// Takes the attributes of an operand that the instructions after a position take, each of what the one before gave. The position
-/// becomes that of the last of these instructions. That holds wherever the reading of the path began.
+/// Takes the attributes of an operand that the instructions after the cursor take, each of what the one before gave. The cursor moves
+/// to the last of these instructions. That holds wherever the reading of the path began.
 fn attributes<'v, T: Tally>(
     alloc: Global,
-    chunk: &Chunk,
-    at: &mut usize,
+    cursor: &mut Cursor<'_, '_, T>,
     reached: LentOperand<'v>,
-    steps: &mut Steps<T>,
 ) -> TeraResult<LentOperand<'v>>
-    requires { IsPosition chunk.now.code at.old }
-    ensures stands { (s : Start) → s.here.file ≡ chunk.now.file →
-        Reaches s chunk.now.code at.old steps.old reached.entry →
-        Stands s chunk.now.code at.new steps.new }
-    ensures ok { IfOk result (λ o. (s : Start) → s.here.file ≡ chunk.now.file →
-        Reaches s chunk.now.code at.old steps.old reached.entry →
-        Reaches s chunk.now.code at.new steps.new o) }
-    ensures err { IfErr result (λ e. (s : Start) → s.here.file ≡ chunk.now.file →
-        Reaches s chunk.now.code at.old steps.old reached.entry →
-        Breaks s chunk.now.code steps.new e) }
+    requires { IsPosition cursor.old }
+    ensures stands { (s : Start T) → Reaches s cursor.old reached.entry → Stands s cursor.new }
+    ensures ok { IfOk result (λ o. (s : Start T) →
+        Reaches s cursor.old reached.entry → Reaches s cursor.new o) }
+    ensures err { IfErr result (λ e. (s : Start T) →
+        Reaches s cursor.old reached.entry → Breaks s cursor.new e) }
 {
-    match chunk.attribute_at(*at + 1, steps) {
+    let chunk = cursor.chunk;
+    match chunk.attribute_at(cursor.at + 1, cursor.steps) {
         None => Ok(reached),
         Some((name, optional, span)) => {
-            *at += 1;
+            cursor.at += 1;
             match reached.attribute(alloc, chunk.file(), name.as_str(), optional, span) {
-                Ok(next) => attributes(alloc, chunk, at, next, steps),
+                Ok(next) => attributes(alloc, cursor, next),
                 Err(error) => Err(error),
             }
         }
     }
 }
 
-/// Where it goes on if the instruction after a position tests the topmost operand, which is this one. The position becomes that of
-/// this instruction.
+/// Where it goes on if the instruction after the cursor tests the topmost operand, which is this one. The cursor moves to this
+/// instruction.
 #[inline(always)]
 fn branch_on<'f, T: Tally>(
-    chunk: &Chunk,
-    at: &mut usize,
+    cursor: &mut Cursor<'_, '_, T>,
     top: &LentOperand<'_>,
-    steps: &mut Steps<T>,
 ) -> Option<Flow<'f>>
-    requires { IsPosition chunk.now.code at.old }
-    ensures stands { IfSome result (λ _. (s : Start) (c : Config) →
-        Comes s chunk.now.code at.old steps.old c →
-        Stands s chunk.now.code at.new steps.new) }
-    ensures goes { IfSome result (λ flow. (s : Start) (c : Config) →
-        Comes s chunk.now.code at.old steps.old (topped top.now c) →
-        done_since s chunk.now.code steps.new ≡ Goes c (flow_of flow)) }
-    ensures stays { IfNone result ((at.new ≡ at.old) × (steps.new ≡ steps.old)) }
+    requires { IsPosition cursor.old }
+    ensures stands { IfSome result (λ _. (s : Start T) (c : Config) →
+        Comes s cursor.old c → Stands s cursor.new) }
+    ensures goes { IfSome result (λ flow. (s : Start T) (c : Config) →
+        Comes s cursor.old (topped top.now c) →
+        done_since s cursor.new ≡ Goes c (flow_of flow)) }
+    ensures stays { IfNone result (cursor.new ≡ cursor.old) }
 {
-    let skip = chunk.pop_jump_if_false_at(*at + 1, steps)?;
-    *at += 1;
+    let skip = cursor
+        .chunk
+        .pop_jump_if_false_at(cursor.at + 1, cursor.steps)?;
+    cursor.at += 1;
     if top.is_truthy() {
         Some(Flow::On)
     } else {
@@ -149,40 +144,37 @@ impl<'c> Configuration<'c> {
     pub(crate) fn run_path<'f, O: Objects, T: Tally>(
         &mut self,
         machine: &VirtualMachine<'_, O>,
-        chunk: &Chunk,
-        at: &mut usize,
+        cursor: &mut Cursor<'_, '_, T>,
         name: &Name,
         span: Span,
-        steps: &mut Steps<T>,
     ) -> FlowResult<'f>
-        requires { HasInstruction chunk.now.code at.old (instruction.LoadName name.now span) }
-        ensures { HasRun O.engine machine.now chunk.now at.old steps.old self.old
-            result at.new steps.new self.new }
+        requires { HasInstruction cursor.old (instruction.LoadName name.now span) }
+        ensures { HasRun O.engine machine.now cursor.old self.old result cursor.new self.new }
     {
-        let alloc = machine.alloc;
+        let (alloc, chunk) = (machine.alloc, cursor.chunk);
         let found = self.scopes.look(&name.as_name_ref());
         let Some(first) = lent_operand(&found, span) else {
             let operand = Operand::new(found.to_value(alloc)?, span);
-            return self.finish_path(alloc, chunk, at, operand, steps);
+            return self.finish_path(alloc, cursor, operand);
         };
-        let reached = match attributes(alloc, chunk, at, first, steps) {
+        let reached = match attributes(alloc, cursor, first) {
             Ok(reached) => reached,
             Err(error) => return Err(error),
         };
-        if let Some(flow) = branch_on(chunk, at, &reached, steps) {
+        if let Some(flow) = branch_on(cursor, &reached) {
             return Ok(flow);
         }
-        if chunk.writes_top_at(*at + 1, steps) {
-            *at += 1;
+        if chunk.writes_top_at(cursor.at + 1, cursor.steps) {
+            cursor.at += 1;
             return write_lent(&mut self.texts, machine, chunk.file(), &reached);
         }
-        let Some(comparison) = chunk.comparison_at(*at + 1, steps) else {
+        let Some(comparison) = chunk.comparison_at(cursor.at + 1, cursor.steps) else {
             let operand = reached.to_operand()?;
             return self.push_operand(operand);
         };
-        *at += 2;
+        cursor.at += 2;
         match compare_with_constant(alloc, chunk.file(), &reached, &comparison) {
-            Ok(truth) => self.test_or_push(chunk, at, truth, steps),
+            Ok(truth) => self.test_or_push(cursor, truth),
             Err(error) => Err(error),
         }
     }
@@ -192,44 +184,38 @@ impl<'c> Configuration<'c> {
     fn finish_path<'f, T: Tally>(
         &mut self,
         alloc: Global,
-        chunk: &Chunk,
-        at: &mut usize,
+        cursor: &mut Cursor<'_, '_, T>,
         operand: Operand,
-        steps: &mut Steps<T>,
     ) -> FlowResult<'f>
-        requires { IsPosition chunk.now.code at.old }
-        ensures { (s : Start) → s.here.file ≡ chunk.now.file →
-            Comes s chunk.now.code at.old steps.old (topped operand (config_of self.old)) →
-            HasRunFrom s chunk.now.code self.old result at.new steps.new self.new }
+        requires { IsPosition cursor.old }
+        ensures { (s : Start T) → Comes s cursor.old (topped operand (config_of self.old)) →
+            HasRunFrom s self.old result cursor.new self.new }
     {
-        let Some(comparison) = chunk.comparison_at(*at + 1, steps) else {
-            return self.test_or_push(chunk, at, operand, steps);
+        let chunk = cursor.chunk;
+        let Some(comparison) = chunk.comparison_at(cursor.at + 1, cursor.steps) else {
+            return self.test_or_push(cursor, operand);
         };
-        *at += 2;
+        cursor.at += 2;
         match compare_with_constant(alloc, chunk.file(), &operand.lend(), &comparison) {
-            Ok(truth) => self.test_or_push(chunk, at, truth, steps),
+            Ok(truth) => self.test_or_push(cursor, truth),
             Err(error) => Err(error),
         }
     }
 
-    /// Tests an operand where the instruction after a position does so, and else pushes it. The position becomes that of the last
-    /// instruction that was run.
+    /// Tests an operand where the instruction after the cursor does so, and else pushes it. The cursor moves to the last instruction
+    /// that was run.
     #[inline(always)]
     pub(crate) fn test_or_push<'f, T: Tally>(
         &mut self,
-        chunk: &Chunk,
-        at: &mut usize,
+        cursor: &mut Cursor<'_, '_, T>,
         operand: Operand,
-        steps: &mut Steps<T>,
     ) -> FlowResult<'f>
-        requires { IsPosition chunk.now.code at.old }
-        ensures stands { (s : Start) (c : Config) → Comes s chunk.now.code at.old steps.old c →
-            Stands s chunk.now.code at.new steps.new }
-        ensures does { (s : Start) →
-            Comes s chunk.now.code at.old steps.old (topped operand (config_of self.old)) →
-            Does (λ _. done_since s chunk.now.code steps.new) self.old result self.new }
+        requires { IsPosition cursor.old }
+        ensures stands { (s : Start T) (c : Config) → Comes s cursor.old c → Stands s cursor.new }
+        ensures does { (s : Start T) → Comes s cursor.old (topped operand (config_of self.old)) →
+            Does (λ _. done_since s cursor.new) self.old result self.new }
     {
-        if let Some(flow) = branch_on(chunk, at, &operand.lend(), steps) {
+        if let Some(flow) = branch_on(cursor, &operand.lend()) {
             return Ok(flow);
         }
         self.push_operand(operand)

@@ -1,5 +1,5 @@
 // Loops whose body puts out texts and items alone. Such a loop leaves nothing but text behind, so that no turn is opened for it.
-ghost use Rattle.std.specs.Prelude.{◌≡◌, ◌≢◌, ◌+◌, ◌-◌, ◌<◌, ◌≤◌, ◌^◌, ℕ, [], Bool, true, suc, Some, length, slice_get, OnOk, IfErr, IfSome};
+ghost use Rattle.std.specs.Prelude.{◌≡◌, ◌≢◌, ◌+◌, ◌-◌, ◌<◌, ◌≤◌, ◌^◌, ℕ, [], Bool, true, Some, length, slice_get, OnOk, IfErr, IfSome};
 ghost use Rattle.tera_errors.specs.Site.{Name as NameText};
 ghost use Rattle.tera_values.specs.Prelude.{array, vals};
 ghost use Rattle.tera_code.specs.declared.instruction.Instruction.TheVariants as instruction;
@@ -11,17 +11,17 @@ ghost use Rattle.tera_state.specs.Scope.{look};
 ghost use Rattle.tera_machine.specs.Config.{Config};
 ghost use Rattle.tera_machine.specs.Flow.{On};
 ghost use Rattle.tera_machine.specs.Did.{Goes};
-ghost use Rattle.tera_machine.specs.Dispatch.{CanRun, HasRun, IsLeft};
+ghost use Rattle.tera_machine.specs.Dispatch.{CanRun, HasRun, HasInstruction, IsLeft};
 ghost use Rattle.tera_machine.specs.Effect.{effect, Effected};
-ghost use Rattle.tera_machine.specs.Together.{done};
-ghost use Rattle.tera_machine.specs.Paths.{Start, Stands, Breaks, start_at, topped};
+ghost use Rattle.tera_machine.specs.Paths.{Start, Stands, Breaks, done_since, start_at, topped};
 ghost use Rattle.tera_machine.specs.Printing.{IsAt, Before, Behind, PrintsItems, at_items, items_called, saying};
 
 use crate::configuration::Configuration;
+use crate::cursor::Cursor;
 use crate::instructions::undefined_fault;
 use crate::machine::{Flow, FlowResult, VirtualMachine};
 use crate::rendered_text::RenderedText;
-use tera_code::{Chunk, LentInstruction, Steps, Tally};
+use tera_code::{LentInstruction, Tally};
 use tera_state::Objects;
 use tera_values::{Error, Shape, TeraResult, Value};
 
@@ -69,43 +69,41 @@ fn write_part<O: Objects>(
     Ok(())
 }
 
-/// Puts out the parts from a position to the end of the body. At a fault `at` becomes the position of the part that is at fault.
+/// Puts out the parts from a position to the end of the body. At a fault the cursor moves to the part that is at fault.
 #[inline(always)]
 fn write_parts<O: Objects, T: Tally>(
     texts: &mut RenderedText,
     machine: &VirtualMachine<'_, O>,
-    chunk: &Chunk,
+    cursor: &mut Cursor<'_, '_, T>,
     start: usize,
     end: usize,
     item: &Value,
-    at: &mut usize,
-    steps: &mut Steps<T>,
 ) -> TeraResult<()>
-    requires few { length chunk.now.code < 2 ^ 64 }
-    requires size { start ≤ end }
-    ensures ok { OnOk result ((s : Start) (name : NameText) (c : Config) →
-        IsAt O.engine machine.now chunk.now.file s.here →
-        puts_up_to name chunk.now.code (end - start) start ≡ Some end →
+    requires { start ≤ end }
+    ensures ok { OnOk result ((s : Start T) (name : NameText) (c : Config) →
+        IsAt O.engine machine.now s.cursor.chunk.now.file s.here →
+        puts_up_to name s.cursor.chunk.now.code (end - start) start ≡ Some end →
         look name s.here.around c.run.vars ≡ item.now →
-        Before s chunk.now.code start steps.old (saying texts.old.now c) →
-        Before s chunk.now.code end steps.new (saying texts.new.now c)) }
-    ensures err { IfErr result (λ e. (s : Start) (name : NameText) (c : Config) →
-        IsAt O.engine machine.now chunk.now.file s.here →
-        puts_up_to name chunk.now.code (end - start) start ≡ Some end →
+        Before s cursor.old start (saying texts.old.now c) →
+        Before s cursor.new end (saying texts.new.now c)) }
+    ensures err { IfErr result (λ e. (s : Start T) (name : NameText) (c : Config) →
+        IsAt O.engine machine.now s.cursor.chunk.now.file s.here →
+        puts_up_to name s.cursor.chunk.now.code (end - start) start ≡ Some end →
         look name s.here.around c.run.vars ≡ item.now →
-        Before s chunk.now.code start steps.old (saying texts.old.now c) →
-        Stands s chunk.now.code at.new steps.new × Breaks s chunk.now.code steps.new e) }
+        Before s cursor.old start (saying texts.old.now c) →
+        Stands s cursor.new × Breaks s cursor.new e) }
     ensures below { OnOk result (texts.new.below ≡ texts.old.below) }
 {
+    let chunk = cursor.chunk;
     let mut position = start;
     while position < end {
-        let Some(part) = chunk.get(position, steps) else {
+        let Some(part) = chunk.get(position, cursor.steps) else {
             return Ok(());
         };
         match write_part(texts, machine, chunk.file(), &part, item) {
             Ok(()) => {}
             Err(error) => {
-                *at = position;
+                cursor.at = position;
                 return Err(error);
             }
         }
@@ -119,88 +117,87 @@ fn write_parts<O: Objects, T: Tally>(
 fn write_turns<O: Objects, T: Tally>(
     texts: &mut RenderedText,
     machine: &VirtualMachine<'_, O>,
-    chunk: &Chunk,
+    cursor: &mut Cursor<'_, '_, T>,
     start: usize,
     size: usize,
     items: &[Value],
-    at: &mut usize,
-    steps: &mut Steps<T>,
 ) -> TeraResult<()>
-    requires few { length chunk.now.code < 2 ^ 64 }
-    requires within { start + size < length chunk.now.code }
-    ensures ok { OnOk result ((s : Start) (name : NameText) (counts : Bool) (c : Config) →
-        IsAt O.engine machine.now chunk.now.file s.here →
-        PrintsItems chunk.now.code start size name → items.now ≢ [] →
-        Before s chunk.now.code start steps.old
+    requires few { length cursor.old.chunk.now.code < 2 ^ 64 }
+    requires within { start + size < length cursor.old.chunk.now.code }
+    ensures ok { OnOk result ((s : Start T) (name : NameText) (counts : Bool) (c : Config) →
+        IsAt O.engine machine.now s.cursor.chunk.now.file s.here →
+        PrintsItems s.cursor.chunk.now.code start size name → items.now ≢ [] →
+        Before s cursor.old start
         (at_items (items_called name counts) (length (unkeyed items.now)) 0 start size items.now
         (saying texts.old.now c)) →
-        Behind s chunk.now.code start size steps.new (saying texts.new.now c)) }
-    ensures err { IfErr result (λ e. (s : Start) (name : NameText) (counts : Bool) (c : Config) →
-        IsAt O.engine machine.now chunk.now.file s.here →
-        PrintsItems chunk.now.code start size name → items.now ≢ [] →
-        Before s chunk.now.code start steps.old
+        Behind s cursor.new start size (saying texts.new.now c)) }
+    ensures err { IfErr result (λ e. (s : Start T) (name : NameText) (counts : Bool) (c : Config) →
+        IsAt O.engine machine.now s.cursor.chunk.now.file s.here →
+        PrintsItems s.cursor.chunk.now.code start size name → items.now ≢ [] →
+        Before s cursor.old start
         (at_items (items_called name counts) (length (unkeyed items.now)) 0 start size items.now
         (saying texts.old.now c)) →
-        Stands s chunk.now.code at.new steps.new × Breaks s chunk.now.code steps.new e) }
+        Stands s cursor.new × Breaks s cursor.new e) }
     ensures below { OnOk result (texts.new.below ≡ texts.old.below) }
 {
+    let chunk = cursor.chunk;
     let end = start + size;
     for item in items {
-        match write_parts(texts, machine, chunk, start, end, item, at, steps) {
+        match write_parts(texts, machine, cursor, start, end, item) {
             Ok(()) => {}
             Err(error) => return Err(error),
         }
         // The end of the turn, which is counted.
-        let Some(_) = chunk.get(end, steps) else {
+        let Some(_) = chunk.get(end, cursor.steps) else {
             return Ok(());
         };
-        if steps.are_spent() {
-            *at = end;
+        if cursor.steps.are_spent() {
+            cursor.at = end;
             return Err(Error::out_of_memory());
         }
     }
     Ok(())
 }
 
-/// Does the loop over these items that the instruction at a position opens, up to its end. The position becomes that of the last of
-/// its instructions.
+/// Does the loop over these items that the instruction at the cursor opens, up to its end. The cursor moves to the last of its
+/// instructions.
 #[inline(never)]
 fn write_loop<'f, O: Objects, T: Tally>(
     texts: &mut RenderedText,
     machine: &VirtualMachine<'_, O>,
-    chunk: &Chunk,
+    cursor: &mut Cursor<'_, '_, T>,
     opening: &LentInstruction<'_>,
     size: usize,
     items: &[Value],
-    at: &mut usize,
-    steps: &mut Steps<T>,
 ) -> FlowResult<'f>
-    requires there { slice_get chunk.now.code at.old ≡ Some opening.now }
-    requires few { length chunk.now.code < 2 ^ 64 }
-    requires printing { printing_loop_at chunk.now.code at.old ≡ Some size }
-    requires ends { slice_get chunk.now.code (at.old + 1 + size) ≡ Some instruction.NextTurn }
+    requires opens { HasInstruction cursor.old opening.now }
+    requires printing { printing_loop_at cursor.old.chunk.now.code cursor.old.at ≡ Some size }
+    requires ends { slice_get cursor.old.chunk.now.code (cursor.old.at + 1 + size)
+        ≡ Some instruction.NextTurn }
     requires some { items.now ≢ [] }
     ensures stands { (here : Here) (a : Evaluated) (c : Config) →
-        IsAt O.engine machine.now chunk.now.file here → a.value ≡ array (vals items.now) →
-        Stands (start_at here at.old steps.old (topped a (saying texts.old.now c)))
-        chunk.now.code at.new steps.new }
+        IsAt O.engine machine.now cursor.old.chunk.now.file here →
+        a.value ≡ array (vals items.now) →
+        Stands (start_at here cursor.old (topped a (saying texts.old.now c))) cursor.new }
     ensures does { (here : Here) (a : Evaluated) (c : Config) →
-        IsAt O.engine machine.now chunk.now.file here → a.value ≡ array (vals items.now) →
-        Effected (done here chunk.now.code (suc (steps.new - steps.old)) at.old
-        (topped a (saying texts.old.now c))) result (saying texts.new.now c) }
+        IsAt O.engine machine.now cursor.old.chunk.now.file here →
+        a.value ≡ array (vals items.now) →
+        Effected (done_since (start_at here cursor.old (topped a (saying texts.old.now c)))
+        cursor.new) result (saying texts.new.now c) }
     ensures below { OnOk result (texts.new.below ≡ texts.old.below) }
 {
     // Nothing else opens such a loop, and its end is where that is looked for below: the answers beside these never come.
     let Some((_, _, _, _)) = opening.as_start_loop() else {
         return Ok(Flow::Out);
     };
-    let start = *at + 1;
-    match write_turns(texts, machine, chunk, start, size, items, at, steps) {
+    let chunk = cursor.chunk;
+    let start = cursor.at + 1;
+    match write_turns(texts, machine, cursor, start, size, items) {
         Ok(()) => {}
         Err(error) => return Err(error),
     }
-    *at = start + size + 1;
-    let Some(end) = chunk.get(*at, steps) else {
+    cursor.at = start + size + 1;
+    let Some(end) = chunk.get(cursor.at, cursor.steps) else {
         return Ok(Flow::Out);
     };
     match end.as_end_loop() {
@@ -216,28 +213,25 @@ impl<'c> Configuration<'c> {
     pub(crate) fn run_loop_or_rare<'f, O: Objects, T: Tally>(
         &mut self,
         machine: &VirtualMachine<'_, O>,
-        chunk: &Chunk,
-        at: &mut usize,
+        cursor: &mut Cursor<'_, '_, T>,
         opening: &LentInstruction<'f>,
-        steps: &mut Steps<T>,
     ) -> FlowResult<'f>
-        requires can { CanRun O.engine machine.now chunk.now at.old opening.now self.old }
+        requires can { CanRun O.engine machine.now cursor.old opening.now self.old }
         requires left { IsLeft 5 opening.now }
-        ensures { HasRun O.engine machine.now chunk.now at.old steps.old self.old
-            result at.new steps.new self.new }
+        ensures { HasRun O.engine machine.now cursor.old self.old result cursor.new self.new }
     {
-        let Some(size) = chunk.printing_loop_at(*at) else {
-            return self.run_rare(machine, chunk.file(), *at + 1, opening);
+        let chunk = cursor.chunk;
+        let Some(size) = chunk.printing_loop_at(cursor.at) else {
+            return self.run_rare(machine, chunk.file(), cursor.at + 1, opening);
         };
         // Nothing else opens such a loop.
         let Some((_, _, _, _)) = opening.as_start_loop() else {
             return Ok(Flow::Out);
         };
         let Some(items) = items_of(self.operands.top().value()) else {
-            return self.run_rare(machine, chunk.file(), *at + 1, opening);
+            return self.run_rare(machine, chunk.file(), cursor.at + 1, opening);
         };
-        let texts = &mut self.texts;
-        let printed = write_loop(texts, machine, chunk, opening, size, items, at, steps);
+        let printed = write_loop(&mut self.texts, machine, cursor, opening, size, items);
         drop(self.operands.pop_top());
         printed
     }

@@ -33,12 +33,13 @@ impl Model for RenderedText {
 }
 
 impl RenderedText {
-    /// Nothing is written yet; takes no memory.
-    pub fn new(alloc: Global) -> RenderedText
+    /// Nothing is written yet. What will be goes to the memory of this text, which is dropped; takes no memory.
+    pub fn new(alloc: Global, mut memory: String) -> RenderedText
         ensures { result ≡ record { now = []; below = [] } }
     {
+        memory.clear();
         RenderedText {
-            all: String::new(alloc),
+            all: memory,
             start: 0,
             outer: Stack::new(alloc),
         }

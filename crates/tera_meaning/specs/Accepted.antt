@@ -4,7 +4,6 @@ use Rattle.std.specs.List.{list_any, filter_map}
 use Rattle.std.specs.Option.{option_or}
 use Rattle.tera_errors.specs.Site.{Name}
 use Rattle.tera_errors.specs.Fault.{Fault, message, circular_include}
-use Rattle.tera_syntax_tree.specs.Tree.{Tree}
 use Rattle.tera_syntax_tree.specs.Blocks.{top_blocks}
 use Rattle.tera_syntax_tree.specs.Calls.{Callee}
 use Rattle.tera_meaning.specs.Registry.{Entry, Registry}

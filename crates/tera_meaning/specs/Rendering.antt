@@ -53,13 +53,17 @@ has_some (a ∷ as') = true
 abbrev pub has_a_block : Nodes → Bool
 has_a_block nodes = has_some (top_blocks nodes)
 
--- its own components are there as well
-abbrev pub is_component_beside : Registry → Tree → Name → Bool
-is_component_beside r tree name = is_some (component_at (beside r tree) name)
+-- whether a name is that of a component of the world
+abbrev pub is_component_in : World → Name → Bool
+is_component_in w name = is_some (component_at w name)
 
--- whether what a text beside the registry calls is there
+-- whether what is called in the world is there
+abbrev pub knows_in : World → Callee → Bool
+knows_in w = is_known w.registry.engine (is_component_in w) (is_template w.registry)
+
+-- for a text beside the registry, its own components are there as well
 abbrev pub knows_beside : Registry → Tree → Callee → Bool
-knows_beside r tree = is_known r.engine (is_component_beside r tree) (is_template r)
+knows_beside r tree = knows_in (beside r tree)
 
 module _ {C : Type 0} (alphabet : Alphabet C) where
   -- around the variables of a rendering: the caller's context, and the global one

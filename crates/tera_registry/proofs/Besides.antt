@@ -14,7 +14,7 @@ use Rattle.tera_meaning.specs.Registry.{Registry}
 use Rattle.tera_meaning.specs.Known.{is_known, lacks_a_callee}
 use Rattle.tera_meaning.specs.Accepted.{is_template}
 use Rattle.tera_meaning.specs.Components.{Component, component_named, component, one_off_name}
-use Rattle.tera_meaning.specs.Rendering.{is_component_beside, knows_beside}
+use Rattle.tera_meaning.specs.Rendering.{beside, is_component_in, knows_beside}
 use Rattle.tera_registry.specs.declared.components.Component.{Component as Kept}
 use Rattle.tera_registry.specs.declared.component_table.ComponentAt.{ComponentAt}
 use Rattle.tera_registry.specs.Known.{is_there, code_lacks}
@@ -44,7 +44,7 @@ either-there : (a b : Option Component) → is_some (option_or a b) ≡ (is_some
 either-there None b = refl
 either-there (Some c) b = refl
 
-there-beside : (r : Registry) (tree : Tree) (file : Name) (choices : BTreeMap (String Global) ComponentAt Global) (own : List Kept) → AreChosen r choices → map kept_of own ≡ kept_all file tree.definitions → (n : Name) → is_there choices own n ≡ is_component_beside r tree n
+there-beside : (r : Registry) (tree : Tree) (file : Name) (choices : BTreeMap (String Global) ComponentAt Global) (own : List Kept) → AreChosen r choices → map kept_of own ≡ kept_all file tree.definitions → (n : Name) → is_there choices own n ≡ is_component_in (beside r tree) n
 there-beside r tree file choices own known kept n =
     let of_all : is_some (chosen choices n) ≡ is_some (component r n) = ap is_some (known n) ∙ taken-there r n (chosen_of r n) refl in
     let of_own = own-there n own ∙ ap (list_any (λ m. bytes_eq n m)) (kept-names-are file tree.definitions own kept) ∙ named-there one_off_name n tree.definitions in
@@ -53,7 +53,7 @@ there-beside r tree file choices own known kept n =
 pub beside-lacks : (r : Registry) (engine : Engine) (template : Name → Bool) (tree : Tree) (file : Name) (choices : BTreeMap (String Global) ComponentAt Global) (own : List Kept) (body : Listing) → AreChosen r choices → r.engine ≡ engine → template ≡ is_template r → body.code ≡ nodes_code tree.nodes 0 → map kept_of own ≡ kept_all file tree.definitions → in_tree.blocks tree.nodes ≡ []
     → (code_lacks (is_known engine (is_there choices own) template) body.code || list_any (λ c. code_lacks (is_known engine (is_there choices own) template) c.code.value.chunk.code) own) ≡ lacks_a_callee (knows_beside r tree) tree
 beside-lacks r engine template tree file choices own body known of resolves code kept none =
-    let there : is_there choices own ≡ is_component_beside r tree = fun_ext (there-beside r tree file choices own known kept) in
+    let there : is_there choices own ≡ is_component_in (beside r tree) = fun_ext (there-beside r tree file choices own known kept) in
     codes_lack_as_tree (is_known engine (is_there choices own) template) file body own tree code kept none
     ∙ ap₂ (λ e f. lacks_a_callee (is_known e f template) tree) (sym of) there
-    ∙ ap (λ f. lacks_a_callee (is_known r.engine (is_component_beside r tree) f) tree) resolves
+    ∙ ap (λ f. lacks_a_callee (is_known r.engine (is_component_in (beside r tree)) f) tree) resolves

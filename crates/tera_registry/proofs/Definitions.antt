@@ -1,5 +1,5 @@
 -- The component of a name, found by position.
-use Rattle.std.proofs.Common.{◌≡◌, ℕ, ◌<◌, is_some, List, [], length, map, get_or, Option, Some, None, option_map, option_and_then, Global, String, refl, sym, ap, ap₂, ◌∙◌, arith, slice_get}
+use Rattle.std.proofs.Common.{◌≡◌, ℕ, ◌<◌, is_some, List, [], length, map, get_or, Option, Some, None, option_map, option_and_then, Global, String, refl, sym, ap, ◌∙◌, arith, slice_get}
 use Rattle.std.specs.declared.collections.BTreeMap.{BTreeMap}
 use Rattle.std.specs.declared.rc.Rc.{Rc}
 use Rattle.std.specs.List.{list_any}

@@ -21,7 +21,7 @@ use Rattle.tera_code.specs.Called.{called_by, callees}
 use Rattle.tera_code.proofs.Callees.{code_calls_the_same}
 use Rattle.tera_state.specs.Engine.{Engine, own_or_built_in}
 use Rattle.tera_meaning.specs.Known.{is_known, has_unknown, lacks_a_callee, bodies, included_names}
-use Rattle.tera_meaning.specs.Registry.{Registry, Entry}
+use Rattle.tera_meaning.specs.Registry.{Registry}
 use Rattle.tera_meaning.specs.Resolve.{resolve}
 use Rattle.tera_registry.specs.declared.code.TemplateBlock.{TemplateBlock}
 use Rattle.tera_registry.specs.declared.components.Component.{Component}

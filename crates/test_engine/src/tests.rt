@@ -1,6 +1,7 @@
 // Texts, scripts and calls, each with what it comes to.
 
 mod absent_calls;
+mod appending;
 mod batches;
 mod blocks;
 mod budgets;

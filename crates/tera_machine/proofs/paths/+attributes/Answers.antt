@@ -1,7 +1,7 @@
 use Rattle.std.proofs.Common.{◌+◌, arith, refl, Ok, Err, IfOk, IfErr, Result}
 use Rattle.std.proofs.lemmas.Option.{slice_get_within}
 use Rattle.tera_errors.specs.Answer.{SeenError}
-use Rattle.tera_machine.proofs.Reaching.{more, attribute_reached, attribute_breaks}
+use Rattle.tera_machine.proofs.Reaching.{attribute_breaks, attribute_reached, attribute_stands, counted_so}
 use Rattle.tera_machine.proofs.paths.+attributes.Goals as goal
 
 if_ok : {A : Type 0} {P Q : A → Type 0} (r : Result A SeenError) → ((a : A) → P a → Q a) → IfOk r P → IfOk r Q
@@ -14,24 +14,24 @@ if_err (Err e) f p = f e p
 
 pub attributes-requires : goal.attributes-requires
 attributes-requires g t c κs within =
-    (omega (arith, slice_get_within c.args.chunk.now.code (c.args.at.now + 1) _ c.in-Some.ensures.means, c.decreases), (within, record { few = c.requires.few; there = slice_get_within c.args.chunk.now.code (c.args.at.now + 1) _ c.in-Some.ensures.means }))
+    (omega (arith, slice_get_within c.args.cursor.now.chunk.now.code (c.args.cursor.now.at + 1) _ c.in-Some.ensures.means, c.decreases), (within, record { few = c.requires.few; there = slice_get_within c.args.cursor.now.chunk.now.code (c.args.cursor.now.at + 1) _ c.in-Some.ensures.means }))
 
 pub returns-in-Ok-clause-stands : goal.returns-in-Ok-clause-stands
-returns-in-Ok-clause-stands g t c = λ s f r.
-    c.attributes.ensures.stands s f (attribute_reached r c.in-Some.ensures.means refl c.in-Some.ensures.count f c.file.ensures c.as_str.ensures c.in-Ok.ensures.part)
+returns-in-Ok-clause-stands g t c = λ s r.
+    c.attributes.ensures.stands s (attribute_reached r c.in-Some.ensures.means refl (counted_so c.in-Some.ensures.count) c.file.ensures c.as_str.ensures c.in-Ok.ensures.part)
 
 pub returns-in-Ok-clause-ok : goal.returns-in-Ok-clause-ok
 returns-in-Ok-clause-ok g t c =
-    if_ok c.attributes.result (λ o p s f r. p s f (attribute_reached r c.in-Some.ensures.means refl c.in-Some.ensures.count f c.file.ensures c.as_str.ensures c.in-Ok.ensures.part)) c.attributes.ensures.ok
+    if_ok c.attributes.result (λ o p s r. p s (attribute_reached r c.in-Some.ensures.means refl (counted_so c.in-Some.ensures.count) c.file.ensures c.as_str.ensures c.in-Ok.ensures.part)) c.attributes.ensures.ok
 
 pub returns-in-Ok-clause-err : goal.returns-in-Ok-clause-err
 returns-in-Ok-clause-err g t c =
-    if_err c.attributes.result (λ e p s f r. p s f (attribute_reached r c.in-Some.ensures.means refl c.in-Some.ensures.count f c.file.ensures c.as_str.ensures c.in-Ok.ensures.part)) c.attributes.ensures.err
+    if_err c.attributes.result (λ e p s r. p s (attribute_reached r c.in-Some.ensures.means refl (counted_so c.in-Some.ensures.count) c.file.ensures c.as_str.ensures c.in-Ok.ensures.part)) c.attributes.ensures.err
 
 pub returns-in-Err-clause-stands : goal.returns-in-Err-clause-stands
-returns-in-Err-clause-stands g t c = λ s f r.
-    more r c.in-Some.ensures.means refl c.in-Some.ensures.count
+returns-in-Err-clause-stands g t c = λ s r.
+    attribute_stands r c.in-Some.ensures.means refl (counted_so c.in-Some.ensures.count) c.file.ensures c.as_str.ensures
 
 pub returns-in-Err-clause-err : goal.returns-in-Err-clause-err
-returns-in-Err-clause-err g t c = λ s f r.
-    attribute_breaks r c.in-Some.ensures.means refl c.in-Some.ensures.count f c.file.ensures c.as_str.ensures c.in-Err.error c.in-Err.ensures.part
+returns-in-Err-clause-err g t c = λ s r.
+    attribute_breaks r c.in-Some.ensures.means refl (counted_so c.in-Some.ensures.count) c.file.ensures c.as_str.ensures c.in-Err.error c.in-Err.ensures.part

@@ -11,7 +11,7 @@ abbrev pub invariant-loop-position : goal.invariant-loop-position
 invariant-loop-position g l = record {
   within : l.position ≤ l.end;
   below : l.texts.below ≡ l.initial.texts.below;
-  comes : (s : Start) (name : Name) (c : Config) → IsAt g.O.Objects.engine l.machine l.chunk.file s.here → puts_up_to name l.chunk.code (l.end - l.start) l.start ≡ Some l.end → look name s.here.around c.run.vars ≡ l.item → Before s l.chunk.code l.start l.initial.steps (saying l.initial.texts.now c) → (puts_up_to name l.chunk.code (l.end - l.position) l.position ≡ Some l.end) × Before s l.chunk.code l.position l.steps (saying l.texts.now c);
+  comes : (s : Start _) (name : Name) (c : Config) → IsAt g.O.Objects.engine l.machine s.cursor.chunk.now.file s.here → puts_up_to name s.cursor.chunk.now.code (l.end - l.start) l.start ≡ Some l.end → look name s.here.around c.run.vars ≡ l.item → Before s l.initial.cursor l.start (saying l.initial.texts.now c) → (puts_up_to name s.cursor.chunk.now.code (l.end - l.position) l.position ≡ Some l.end) × Before s l.cursor l.position (saying l.texts.now c);
 }
 
 abbrev pub decreases-loop-position : goal.decreases-loop-position

@@ -9,5 +9,5 @@ use Rattle.tera_machine.proofs.printing_loops.write_turns.Given as goal
 abbrev pub invariant-loop-item : goal.invariant-loop-item
 invariant-loop-item g l = record {
   below : l.texts.below ≡ l.initial.texts.below;
-  comes : (s : Start) (name : Name) (counts : Bool) (c : Config) → IsAt g.O.Objects.engine l.machine l.chunk.file s.here → PrintsItems l.chunk.code l.start l.size name → l.items ≢ [] → Before s l.chunk.code l.start l.initial.steps (at_items (items_called name counts) (length (unkeyed l.items)) 0 l.start l.size l.items (saying l.initial.texts.now c)) → Turning s l.chunk.code l.start l.size l.steps (items_called name counts) (length (unkeyed l.items)) l.item-index (drop l.item-index l.items) (saying l.texts.now c);
+  comes : (s : Start _) (name : Name) (counts : Bool) (c : Config) → IsAt g.O.Objects.engine l.machine s.cursor.chunk.now.file s.here → PrintsItems s.cursor.chunk.now.code l.start l.size name → l.items ≢ [] → Before s l.initial.cursor l.start (at_items (items_called name counts) (length (unkeyed l.items)) 0 l.start l.size l.items (saying l.initial.texts.now c)) → Turning s l.cursor l.start l.size (items_called name counts) (length (unkeyed l.items)) l.item-index (drop l.item-index l.items) (saying l.texts.now c);
 }

@@ -1,4 +1,4 @@
-use Rattle.std.proofs.Common.{◌≡◌, length, refl, sym, ap, subst, ◌∙◌}
+use Rattle.std.proofs.Common.{◌≡◌, length, refl, sym, subst}
 use Rattle.tera_meaning.specs.Adding.{accepted}
 use Rattle.tera_meaning.specs.Registry.{Registry}
 use Rattle.tera_registry.specs.Choices.{AreChosen, IsFirstTie}

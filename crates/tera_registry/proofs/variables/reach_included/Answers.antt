@@ -1,4 +1,4 @@
-use Rattle.std.proofs.Common.{◌≡◌, length, Some, refl, sym, ap, ◌∙◌, arith, filter_map, slice_get}
+use Rattle.std.proofs.Common.{◌≡◌, length, Some, refl, ap, ◌∙◌, arith, filter_map, slice_get}
 use Rattle.std.proofs.lemmas.List.{drop_all}
 use Rattle.std.proofs.lemmas.Option.{slice_get_read}
 use Rattle.tera_registry.specs.Kept.{entries_of, entry_of, seen}

@@ -8,12 +8,12 @@ use Rattle.tera_meaning.specs.Components.{one_off_name}
 use Rattle.tera_meaning.specs.Known.{lacks_a_callee}
 use Rattle.tera_code.specs.Code.{nodes_code}
 use Rattle.tera_code.specs.Listing.{Listing}
-use Rattle.tera_meaning.specs.Rendering.{knows_beside}
+use Rattle.tera_meaning.specs.Rendering.{knows_beside, knows_in}
 use Rattle.tera_registry.specs.Components.{kept_all}
 use Rattle.tera_registry.specs.Templates.{with_templates}
 use Rattle.tera_registry.specs.declared.templates.Templates.{Templates}
 use Rattle.tera_machine.specs.Subject.{Subject}
-use Rattle.tera.specs.Registry.{registry_of, knows_in, tree_beside}
+use Rattle.tera.specs.Registry.{registry_of, tree_beside}
 use Rattle.tera.proofs.Renders.{lacking-says, nothing-missing}
 use Rattle.tera.proofs.engine.TeraOver.render_output.Goals as goal
 

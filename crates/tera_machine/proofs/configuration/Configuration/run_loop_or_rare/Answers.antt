@@ -1,12 +1,11 @@
-use Rattle.std.proofs.Common.{arith, refl, sym, ◌≡◌, ◌-◌, ◌∙◌, suc, ap, subst}
+use Rattle.std.proofs.Common.{arith, refl, sym, ◌≡◌, ◌∙◌, ap, subst}
 use Rattle.std.proofs.lemmas.Option.{slice_get_within}
 use Rattle.tera_values.specs.Val.{array, vals}
 use Rattle.tera_machine.specs.Config.{config_of}
 use Rattle.tera_machine.specs.Did.{holding}
 use Rattle.tera_machine.specs.Effect.{Effected}
 use Rattle.tera_machine.specs.Subject.{here_of}
-use Rattle.tera_machine.specs.Together.{done}
-use Rattle.tera_machine.specs.Paths.{Stands, start_at}
+use Rattle.tera_machine.specs.Paths.{Stands, done_since, start_at}
 use Rattle.tera_machine.specs.Printing.{saying}
 use Rattle.tera_machine.proofs.Reaching.{ran_alone}
 use Rattle.tera_machine.proofs.Parts.{as_topped, effected_same, on_ok, on_ok_by, topmost_is}
@@ -22,8 +21,8 @@ target g c =
 pub returns-in_default : goal.returns-in_default
 returns-in_default g c = ran_alone c.requires.can refl c.file.ensures c.run_rare.ensures
 
-pub overflow_add-at-in_default-items_of : goal.overflow_add-at-in_default-items_of
-overflow_add-at-in_default-items_of g c = omega (arith, slice_get_within c.args.chunk.now.code _ _ c.requires.can.there, c.requires.can.few)
+pub overflow_add-cursor-in_default-items_of : goal.overflow_add-cursor-in_default-items_of
+overflow_add-cursor-in_default-items_of g c = omega (arith, slice_get_within c.args.cursor.now.chunk.now.code _ _ c.requires.can.there, c.requires.can.few)
 
 pub returns-in_default-items_of : goal.returns-in_default-items_of
 returns-in_default-items_of g c =
@@ -32,11 +31,11 @@ returns-in_default-items_of g c =
 pub returns : goal.returns
 returns g c =
     let old = config_of c.args.self.now in
-    let here = here_of g.O.Objects.engine c.args.machine.now c.args.chunk.now.file c.args.self.now in
+    let here = here_of g.O.Objects.engine c.args.machine.now c.args.cursor.now.chunk.now.file c.args.self.now in
     let new = saying c.write_loop-printed.new.texts.now (holding c.pop_top.new.self old) in
     let is_target = target g (goal.at.returns g c).After-pop_top in
-    let did = subst (λ x. Effected (done here c.args.chunk.now.code (suc (c.write_loop-printed.new.steps - c.args.steps.now)) c.args.at.now x) c.write_loop-printed.result new) (as_topped old c.pop_top.result c.pop_top.new.self c.pop_top.ensures) (c.write_loop-printed.ensures.does here c.pop_top.result (holding c.pop_top.new.self old) (refl, refl, refl) is_target) in
+    let did = subst (λ x. Effected (done_since (start_at here c.args.cursor.now x) c.write_loop-printed.new.cursor) c.write_loop-printed.result new) (as_topped old c.pop_top.result c.pop_top.new.self c.pop_top.ensures) (c.write_loop-printed.ensures.does here c.pop_top.result (holding c.pop_top.new.self old) (refl, refl, refl) is_target) in
     record {
-      stands = subst (λ x. Stands (start_at here c.args.at.now c.args.steps.now x) c.args.chunk.now.code c.write_loop-printed.new.at c.write_loop-printed.new.steps) (as_topped old c.pop_top.result c.pop_top.new.self c.pop_top.ensures) (c.write_loop-printed.ensures.stands here c.pop_top.result (holding c.pop_top.new.self old) (refl, refl, refl) is_target);
-      does = (effected_same (done here c.args.chunk.now.code (suc (c.write_loop-printed.new.steps - c.args.steps.now)) c.args.at.now old) c.write_loop-printed.result new (record new { captures = c.write_loop-printed.new.texts.below }) did (on_ok_by c.write_loop-printed.result (λ e. ap (λ captures. record new { captures = captures }) (sym e)) c.write_loop-printed.ensures.below), (refl, on_ok c.write_loop-printed.result refl));
+      stands = subst (λ x. Stands (start_at here c.args.cursor.now x) c.write_loop-printed.new.cursor) (as_topped old c.pop_top.result c.pop_top.new.self c.pop_top.ensures) (c.write_loop-printed.ensures.stands here c.pop_top.result (holding c.pop_top.new.self old) (refl, refl, refl) is_target);
+      does = (effected_same (done_since (start_at here c.args.cursor.now old) c.write_loop-printed.new.cursor) c.write_loop-printed.result new (record new { captures = c.write_loop-printed.new.texts.below }) did (on_ok_by c.write_loop-printed.result (λ e. ap (λ captures. record new { captures = captures }) (sym e)) c.write_loop-printed.ensures.below), (refl, on_ok c.write_loop-printed.result refl));
     }

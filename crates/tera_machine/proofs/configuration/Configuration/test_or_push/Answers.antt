@@ -8,6 +8,6 @@ returns-in-Some-clause-stands g c = c.in-Some.ensures.stands
 
 pub returns-in-Some-clause-does : goal.returns-in-Some-clause-does
 returns-in-Some-clause-does g c = λ s r. (
-  c.in-Some.ensures.goes s (config_of c.args.self.now) (subst (λ a. Comes s c.args.chunk.now.code c.args.at.now c.args.steps.now (topped a (config_of c.args.self.now))) (sym c.lend.ensures) r),
+  c.in-Some.ensures.goes s (config_of c.args.self.now) (subst (λ a. Comes s c.args.cursor.now (topped a (config_of c.args.self.now))) (sym c.lend.ensures) r),
   (refl, refl),
 )

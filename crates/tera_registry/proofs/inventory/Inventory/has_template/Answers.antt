@@ -1,6 +1,5 @@
-use Rattle.std.proofs.Common.{ap, ◌∙◌}
-use Rattle.tera_meaning.specs.Accepted.{is_template}
-use Rattle.tera_registry.specs.Kept.{entries_of, seen}
+use Rattle.std.proofs.Common.{◌∙◌}
+use Rattle.tera_registry.specs.Kept.{entries_of}
 use Rattle.tera_registry.proofs.Filled.{is_some-position}
 use Rattle.tera_registry.proofs.inventory.Inventory.has_template.Goals as goal
 

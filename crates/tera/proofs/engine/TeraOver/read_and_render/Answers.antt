@@ -8,21 +8,21 @@ use Rattle.tera.proofs.Renders.{refused, refused-tree, rendered, beside-means}
 use Rattle.tera.proofs.Within.{none_more, text_more}
 use Rattle.tera.proofs.engine.TeraOver.read_and_render.Goals as goal
 
-pub returns-clause-means : goal.returns-clause-means
-returns-clause-means g c =
+pub returns-in-Err-clause-means : goal.returns-in-Err-clause-means
+returns-in-Err-clause-means g c =
     let r = registry_of g.O.Objects.engine c.args.self.now in
     refused r c.args.input.now c.args.context.now (string_bytes {Z = Global}) c.args.autoescape c.in-Err.error c.in-Err.ensures.reads
 
-pub returns-clause-few : goal.returns-clause-few
-returns-clause-few g c = λ n h. absurd (none_more c.args.steps.now n h)
+pub returns-in-Err-clause-few : goal.returns-in-Err-clause-few
+returns-in-Err-clause-few g c = λ n h. absurd (none_more c.args.steps.now n h)
 
-pub returns-in-Ok-clause-means : goal.returns-in-Ok-clause-means
-returns-in-Ok-clause-means g c =
+pub returns-in-Err-allow-clause-means : goal.returns-in-Err-allow-clause-means
+returns-in-Err-allow-clause-means g c =
     let r = registry_of g.O.Objects.engine c.args.self.now in
     refused-tree r c.args.input.now c.args.context.now (string_bytes {Z = Global}) c.args.autoescape (tree_of c.in-Ok.output) c.in-Err-allow.error c.in-Ok.ensures.reads c.in-Err-allow.ensures.done
 
-pub returns-in-Ok-clause-few : goal.returns-in-Ok-clause-few
-returns-in-Ok-clause-few g c = λ n h. absurd (none_more c.args.steps.now n h)
+pub returns-in-Err-allow-clause-few : goal.returns-in-Err-allow-clause-few
+returns-in-Err-allow-clause-few g c = λ n h. absurd (none_more c.args.steps.now n h)
 
 pub returns-in-Ok-allow-clause-means : goal.returns-in-Ok-allow-clause-means
 returns-in-Ok-allow-clause-means g c =
